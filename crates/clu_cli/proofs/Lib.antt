@@ -1,0 +1,4 @@
+pub mod Counting
+pub mod FirstAlike
+pub mod Printing
+pub mod Stops

@@ -1,0 +1,15 @@
+use Rattle.std.proofs.Common.{ℕ, List, subst, arith, ◌≡◌}
+use Rattle.clu_partition.specs.Partition.{SameBlocks}
+use Rattle.clu_cli.proofs.FirstAlike.{FirstAlike, first_more, blocks_alike}
+use Rattle.clu_cli.proofs.neighbours.alike_blocks.Goals as goal
+
+pub loop-v-preserved : goal.loop-v-preserved
+loop-v-preserved c =
+    rw c.in_ok-push.ensures.items (first_more c.args.graph.now c.loop-v.v c.first_alike.result c.loop-v.labels.items c.loop-v.invariant c.first_alike.ensures.alike c.first_alike.ensures.least)
+
+pub returns-clause-alike : goal.returns-clause-alike
+returns-clause-alike c =
+    let end : c.loop-v.v ≡ c.args.graph.now.n = omega arith in
+    let all = subst (λ (n : ℕ). FirstAlike c.args.graph.now n c.loop-v.labels.items) end c.loop-v.invariant in
+    let same = subst (λ (ls : List ℕ). SameBlocks ls c.in_ok-partition.partition) c.deref.ensures.value c.in_ok-partition.ensures.same in
+    blocks_alike c.args.graph.now c.loop-v.labels.items all c.in_ok-partition.partition same

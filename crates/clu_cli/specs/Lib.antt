@@ -1,0 +1,6 @@
+pub mod Edits
+pub mod Headline
+pub mod Neighbours
+pub mod Report
+pub mod Status
+pub mod Words

@@ -1,0 +1,38 @@
+-- The report of a solved graph.
+use Rattle.std.specs.Prelude.{ℕ, List, [], ◌∷◌, ◌++◌, codes, if◌then◌else◌, slice_index_or}
+use Rattle.std.specs.List.{flat_map}
+use Rattle.std.specs.Ordering.{int_eq}
+use Rattle.std.specs.Fmt.{decimal, signed_decimal}
+use Rattle.clu_partition.specs.Partition.{block_count_of, blocks_of}
+use Rattle.clu_cli.specs.declared.report.Facts.{Facts}
+
+-- a line and its end
+abbrev pub line : List ℕ → List ℕ
+line text = text ++ 10 ∷ []
+
+unfoldable pub verdict : Facts → List ℕ
+verdict facts = if int_eq facts.value facts.bound then codes "optimal" else codes "gap branchings"
+
+-- the lines before the blocks
+unfoldable pub head : Facts → ℕ → List ℕ
+head facts blocks =
+    line (codes "objective edits")
+    ++ line (codes "vertices " ++ decimal facts.vertices)
+    ++ line (codes "value " ++ signed_decimal facts.value)
+    ++ line (codes "bound " ++ signed_decimal facts.bound)
+    ++ line (codes "scale 1")
+    ++ line (codes "verdict " ++ verdict facts)
+    ++ line (codes "branchings 0")
+    ++ line (codes "blocks " ++ decimal blocks)
+
+-- a vertex's name after a space
+abbrev pub named : List (List ℕ) → ℕ → List ℕ
+named names v = 32 ∷ slice_index_or names v []
+
+-- the line of a block
+unfoldable pub block_line : List (List ℕ) → List ℕ → List ℕ
+block_line names block = line (codes "block" ++ flat_map (named names) block)
+
+-- the facts, and the blocks of the labels in the order of their first vertices
+abbrev pub report : Facts → List (List ℕ) → List ℕ → List ℕ
+report facts names labels = head facts (block_count_of labels) ++ flat_map (block_line names) (blocks_of labels)

@@ -1,0 +1,43 @@
+ghost use Rattle.std.specs.Prelude.{◌≡◌, ◌⊎◌, IfOk, IfErr, IsErrOf, if◌then◌else◌};
+ghost use Rattle.clu_pace.specs.Graph.{PaceGraph};
+ghost use Rattle.clu_pace.specs.Pace.{IsAccepted};
+ghost use Rattle.clu_cli.specs.Headline.{IsAnswer};
+
+use crate::edits::count_edits;
+use crate::neighbours::alike_blocks;
+use crate::report::{Facts, report_text};
+use crate::stop::Stop;
+use clu_pace::{PaceError, read_pace};
+use std::alloc::Global;
+
+/// What a solved graph leaves to be written: the report, and whether its value is its bound.
+#[derive(Drop)]
+pub struct Answer {
+    pub text: Vec<u8>,
+    pub optimal: bool,
+}
+
+/// Reads a graph from the bytes of a file and solves it.
+pub fn answer_of(alloc: Global, bytes: &[u8]) -> Result<Answer, Stop>
+    ensures answer { IfOk result (λ answer. IsAnswer bytes.now answer.text.items (if answer.optimal then 0 else 1)) }
+    ensures refused { IsErrOf result Stop.Refused → (graph : PaceGraph) → IsAccepted bytes.now graph → ⊥ }
+    ensures only { IfErr result (λ stop. (stop ≡ Stop.Refused) ⊎ (stop ≡ Stop.Memory)) }
+{
+    let graph = match read_pace(alloc, bytes) {
+        Ok(graph) => graph,
+        Err(PaceError::Refused) => return Err(Stop::Refused),
+        Err(PaceError::Memory) => return Err(Stop::Memory),
+    };
+    let partition = alike_blocks(alloc, &graph)?;
+    let value = count_edits(&graph, &partition);
+    let facts = Facts {
+        vertices: graph.n(),
+        value: i128::from(value),
+        bound: 0,
+    };
+    let text = report_text(alloc, facts, &partition, &graph)?;
+    Ok(Answer {
+        text,
+        optimal: value == 0,
+    })
+}

@@ -1,0 +1,98 @@
+ghost use Rattle.std.specs.Prelude.{◌≡◌, ◌<◌, ◌++◌, length, All, IfOk, OnOk};
+ghost use Rattle.std.specs.Fmt.{signed_decimal};
+ghost use Rattle.clu_partition.specs.Partition.{block_count_of};
+ghost use Rattle.clu_cli.specs.Report.{report, head, line, verdict, block_line};
+
+use clu_partition::{Names, Partition, Vertex};
+use clu_text::push_number;
+use std::alloc::{AllocError, Global};
+
+/// What a report says beside the blocks: the number of vertices, the number of edits of the
+/// blocks, and a number that no partition's edits are below.
+#[derive(Clone, Copy, Debug, PartialEq, Eq)]
+pub struct Facts {
+    pub vertices: u32,
+    pub value: i128,
+    pub bound: i128,
+}
+
+/// A line of a word, which has its blank, and a text.
+fn push_text(out: &mut Vec<u8>, word: &str, text: &str) -> Result<(), AllocError>
+    ensures { OnOk result (out.new.items ≡ out.old.items ++ line (word.now ++ text.now)) }
+{
+    out.extend_from_slice(word.as_bytes())?;
+    out.extend_from_slice(text.as_bytes())?;
+    out.push(b'\n')?;
+    Ok(())
+}
+
+/// A line of a word, which has its blank, and a number.
+fn push_field(out: &mut Vec<u8>, word: &str, value: i128) -> Result<(), AllocError>
+    ensures { OnOk result (out.new.items ≡ out.old.items ++ line (word.now ++ signed_decimal value)) }
+{
+    out.extend_from_slice(word.as_bytes())?;
+    push_number(out, value)?;
+    out.push(b'\n')?;
+    Ok(())
+}
+
+#[tactic(auto, unfolding(crate::specs::Report::verdict))]
+fn verdict_text(facts: Facts) -> &'static str
+    ensures { result.now ≡ verdict facts }
+{
+    if facts.value == facts.bound {
+        "optimal"
+    } else {
+        "gap branchings"
+    }
+}
+
+/// The lines before the blocks.
+#[tactic(auto, unfolding(crate::specs::Report::head))]
+fn head_text(alloc: Global, facts: Facts, blocks: u32) -> Result<Vec<u8>, AllocError>
+    ensures { IfOk result (λ text. text.items ≡ head facts blocks) }
+{
+    let mut out = Vec::new(alloc);
+    push_text(&mut out, "objective ", "edits")?;
+    push_field(&mut out, "vertices ", facts.vertices as i128)?;
+    push_field(&mut out, "value ", facts.value)?;
+    push_field(&mut out, "bound ", facts.bound)?;
+    push_text(&mut out, "scale ", "1")?;
+    push_text(&mut out, "verdict ", verdict_text(facts))?;
+    push_text(&mut out, "branchings ", "0")?;
+    push_field(&mut out, "blocks ", blocks as i128)?;
+    Ok(out)
+}
+
+/// The line of a block.
+#[tactic(auto, unfolding(crate::specs::Report::block_line))]
+fn push_block<N: Names>(out: &mut Vec<u8>, names: &N, block: &[Vertex]) -> Result<(), AllocError>
+    requires { All (λ v. v < length (N.names names.now)) block.now }
+    ensures { OnOk result (out.new.items ≡ out.old.items ++ block_line (N.names names.now) block.now) }
+{
+    out.extend_from_slice(b"block")?;
+    for v in block {
+        out.push(b' ')?;
+        out.extend_from_slice(names.name(*v).as_bytes())?;
+    }
+    out.push(b'\n')?;
+    Ok(())
+}
+
+/// The report of a partition, with a line for each block.
+pub fn report_text<N: Names>(
+    alloc: Global,
+    facts: Facts,
+    partition: &Partition,
+    names: &N,
+) -> Result<Vec<u8>, AllocError>
+    requires { length partition.now ≡ length (N.names names.now) }
+    ensures { IfOk result (λ text. text.items ≡ report facts (N.names names.now) partition.now) }
+{
+    let mut out = head_text(alloc, facts, partition.block_count())?;
+    let blocks = partition.blocks(alloc)?;
+    for block in &blocks {
+        push_block(&mut out, names, block.vertices())?;
+    }
+    Ok(out)
+}

@@ -1,0 +1,27 @@
+-- What a folder in memory tells.
+use Rattle.std.specs.Prelude.{◌≡◌, ℕ, List, Option, String}
+use Rattle.std.specs.Global.{Global, Vec}
+use Rattle.std.specs.Option.{option_map}
+use Rattle.std.specs.BTreeMap.{BTreeMap, get_by_text}
+use Rattle.clu_outside.specs.Folder.{Told}
+use Rattle.clu_outside.specs.declared.memory_folder.MemoryFolder.{MemoryFolder}
+
+abbrev pub content : BTreeMap (String Global) (Vec ℕ) → List ℕ → Option (List ℕ)
+content files name = option_map (λ bytes. bytes.items) (get_by_text files name)
+
+abbrev pub told_by : MemoryFolder → Told
+told_by folder = record { held = content folder.files; calls = folder.calls }
+
+-- how many loads have met a fault
+abbrev pub load_faults_of : MemoryFolder → ℕ
+load_faults_of folder = folder.load_faults
+
+-- the numbers of the calls that are to fail
+abbrev pub failing_of : MemoryFolder → List ℕ
+failing_of folder = folder.failing.items
+
+-- the calls so far, their faults and the calls that are to fail are the same
+pub record SameCalls (old new : MemoryFolder) : Type 0 where
+  pub calls : new.calls ≡ old.calls
+  pub load_faults : load_faults_of new ≡ load_faults_of old
+  pub failing : failing_of new ≡ failing_of old

@@ -1,0 +1,42 @@
+ghost use Rattle.std.specs.Prelude.{◌≡◌, ℕ, Option};
+ghost use Rattle.clu_outside.specs.declared.folder.LoadErr.TheVariants.{Memory};
+ghost use Rattle.clu_outside.specs.Folder.{Told, LoadTells, LoadCause};
+
+use std::alloc::{AllocError, Global};
+
+/// Why a load gave no bytes: a fault of the folder, no file of that name, a file longer than the
+/// limit, or want of memory.
+#[derive(Clone, Copy, Debug, PartialEq, Eq)]
+pub enum LoadErr {
+    Failed,
+    Missing,
+    TooLong,
+    Memory,
+}
+
+impl From<AllocError> for LoadErr {
+    ghost from_gives = { λ _ e. e ≡ Memory };
+
+    fn from(_: AllocError) -> Self {
+        LoadErr::Memory
+    }
+}
+
+/// A folder of files, each under a name.
+pub trait Folder {
+    /// What it holds and how many calls it has had, where it tells.
+    ghost told: { Self → Option Told };
+
+    /// How many loads have met a fault, up to the last value of a `u64`.
+    ghost load_faults: { Self → ℕ };
+
+    /// How many creates and appends have met a fault, up to the last value of a `u64`.
+    ghost store_faults: { Self → ℕ };
+
+    /// The bytes under a name, unless they are longer than the limit. At the last value of a
+    /// `u64` there is no limit.
+    fn load(&mut self, alloc: Global, name: &str, limit: u64) -> Result<Vec<u8>, LoadErr>
+        ensures tells { LoadTells (told self.old) (told self.new) name.now limit result }
+        ensures cause { LoadCause (load_faults self.old) (load_faults self.new) result }
+        ensures stores { store_faults self.new ≡ store_faults self.old };
+}

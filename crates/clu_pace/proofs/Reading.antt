@@ -1,0 +1,96 @@
+-- The edges read so far, and the lines that are left.
+use Rattle.std.proofs.Common.{◌≡◌, ℕ, ◌-◌, ◌<◌, ◌&&◌, ◌||◌, Bool, true, false, List, [], ◌∷◌, ◌++◌, length, min, max, nat_eq, refl, sym, ◌∙◌, ap, subst, arith, append_assoc}
+use Rattle.std.specs.Str.Parse.{digits_value}
+use Rattle.std.proofs.lemmas.Bool.{false≢true}
+use Rattle.std.proofs.lemmas.Bool.Decides.{nat_tests}
+use Rattle.std.proofs.lemmas.List.{append-nil}
+use Rattle.std.proofs.lemmas.List.Folds.{list_any-append}
+use Rattle.clu_pace.specs.Graph.{is_edge, are_adjacent}
+use Rattle.clu_pace.specs.Pace.{IsEdgeLine, AreEdges, AreAllEdges, NoneTwice}
+
+-- of the lines, those before `left` are the edges `done`
+pub record Reading (n : ℕ) (lines left : List (List (List ℕ))) (done : List (ℕ × ℕ)) : Type 0 where
+  pub back : (tail : List (ℕ × ℕ)) → AreEdges n left tail → AreEdges n lines (done ++ tail)
+  pub onward : (edges : List (ℕ × ℕ)) → AreEdges n lines edges → (tail : List (ℕ × ℕ)) × (edges ≡ done ++ tail) × AreEdges n left tail
+  pub once : NoneTwice done
+
+pub start : (n : ℕ) (lines : List (List (List ℕ))) → Reading n lines lines []
+start n lines = record { back = λ tail h. h; onward = λ edges h. (edges, refl, h); once = tt }
+
+-- a line is one edge at most
+pub same_edge : (n : ℕ) (line : List (List ℕ)) (e f : ℕ × ℕ) → IsEdgeLine n line e → IsEdgeLine n line f → e ≡ f
+same_edge n line e f x y =
+    let ones : x.one ≡ y.one = cc (x.words, y.words) in
+    let twos : x.two ≡ y.two = cc (x.words, y.words) in
+    let us : x.u ≡ y.u = sym x.u_is.0.value_is ∙ ap (digits_value 10) ones ∙ y.u_is.0.value_is in
+    let vs : x.v ≡ y.v = sym x.v_is.0.value_is ∙ ap (digits_value 10) twos ∙ y.v_is.0.value_is in
+    x.edge_is ∙ (λ i. (min (us i) (vs i) - 1, max (us i) (vs i) - 1)) ∙ sym y.edge_is
+
+or_parts : (x y : Bool) → (x || y) ≡ false → (x ≡ false) × (y ≡ false)
+or_parts true y e = absurd (false≢true (sym e))
+or_parts false y e = (refl, e)
+
+absent_push : (edges : List (ℕ × ℕ)) (d e : ℕ × ℕ) → is_edge edges d.0 d.1 ≡ false → (nat_eq d.0 e.0 && nat_eq d.1 e.1) ≡ false → is_edge (edges ++ e ∷ []) d.0 d.1 ≡ false
+absent_push edges d e absent differ =
+    let more : is_edge (edges ++ e ∷ []) d.0 d.1 ≡ (is_edge edges d.0 d.1 || is_edge (e ∷ []) d.0 d.1) = list_any-append (λ x. nat_eq x.0 d.0 && nat_eq x.1 d.1) edges (e ∷ []) in
+    grind (arith, nat_tests)
+
+once_push : (done : List (ℕ × ℕ)) (e : ℕ × ℕ) → NoneTwice done → is_edge done e.0 e.1 ≡ false → NoneTwice (done ++ e ∷ [])
+once_push [] e once absent = (refl, tt)
+once_push (d ∷ done) e once absent =
+    let here : (nat_eq d.0 e.0 && nat_eq d.1 e.1) ≡ false = (or_parts _ _ absent).0 in
+    let rest : is_edge done e.0 e.1 ≡ false = (or_parts _ _ absent).1 in
+    (absent_push done d e once.0 here, once_push done e once.1 rest)
+
+once_front : (done : List (ℕ × ℕ)) (e : ℕ × ℕ) (tail : List (ℕ × ℕ)) → NoneTwice (done ++ e ∷ tail) → is_edge done e.0 e.1 ≡ false
+once_front [] e tail once = refl
+once_front (d ∷ done) e tail once =
+    let rest : is_edge done e.0 e.1 ≡ false = once_front done e tail once.1 in
+    let more : is_edge (done ++ e ∷ tail) d.0 d.1 ≡ (is_edge done d.0 d.1 || is_edge (e ∷ tail) d.0 d.1) = list_any-append (λ x. nat_eq x.0 d.0 && nat_eq x.1 d.1) done (e ∷ tail) in
+    let back : is_edge (e ∷ tail) d.0 d.1 ≡ false = (or_parts _ _ (sym more ∙ once.0)).1 in
+    let here : (nat_eq e.0 d.0 && nat_eq e.1 d.1) ≡ false = (or_parts _ _ back).0 in
+    grind (arith, nat_tests)
+
+module _ (n : ℕ) (lines left : List (List (List ℕ))) (line : List (List ℕ)) (done : List (ℕ × ℕ)) (old : Reading n lines (line ∷ left) done) where
+  first_left : (edges tail : List (ℕ × ℕ)) → edges ≡ done ++ tail → AreEdges n (line ∷ left) tail
+      → (e : ℕ × ℕ) × (rest : List (ℕ × ℕ)) × (edges ≡ done ++ e ∷ rest) × IsEdgeLine n line e × AreEdges n left rest
+  first_left edges [] is are = absurd are
+  first_left edges (e ∷ rest) is are = (e, rest, is, are.0, are.1)
+
+  pub refuse_edge : ((e : ℕ × ℕ) → IsEdgeLine n line e → ⊥) → (edges : List (ℕ × ℕ)) → AreEdges n lines edges → ⊥
+  refuse_edge none edges are = let on = old.onward edges are in let f = first_left edges on.0 on.1 on.2 in none f.0 f.3
+
+  pub refuse_twice : (e : ℕ × ℕ) → IsEdgeLine n line e → is_edge done e.0 e.1 ≡ true → (edges : List (ℕ × ℕ)) → AreEdges n lines edges → NoneTwice edges → ⊥
+  refuse_twice e is twice edges are once =
+      let on = old.onward edges are in
+      let f = first_left edges on.0 on.1 on.2 in
+      let absent : is_edge done f.0.0 f.0.1 ≡ false = once_front done f.0 f.1 (subst NoneTwice f.2 once) in
+      let same : f.0 ≡ e = same_edge n line f.0 e f.3 is in
+      false≢true (sym absent ∙ ap (λ (d : ℕ × ℕ). is_edge done d.0 d.1) same ∙ twice)
+
+  pub read_more : (e : ℕ × ℕ) → IsEdgeLine n line e → is_edge done e.0 e.1 ≡ false → Reading n lines left (done ++ e ∷ [])
+  read_more e is absent = record {
+    back = λ tail are. subst (λ (edges : List (ℕ × ℕ)). AreEdges n lines edges) (sym (append_assoc done (e ∷ []) tail)) (old.back (e ∷ tail) (is, are));
+    onward = λ edges are.
+        let on = old.onward edges are in
+        let f = first_left edges on.0 on.1 on.2 in
+        (f.1, f.2 ∙ ap (λ (d : ℕ × ℕ). done ++ d ∷ f.1) (same_edge n line f.0 e f.3 is) ∙ sym (append_assoc done (e ∷ []) f.1), f.4);
+    once = once_push done e old.once absent;
+  }
+
+none_left : (n : ℕ) (done edges tail : List (ℕ × ℕ)) → edges ≡ done ++ tail → AreEdges n [] tail → edges ≡ done
+none_left n done edges [] is are = is ∙ append-nil done
+none_left n done edges (e ∷ tail) is are = absurd are
+
+module _ (n : ℕ) (lines : List (List (List ℕ))) (done : List (ℕ × ℕ)) (all : Reading n lines [] done) where
+  pub are_all : AreEdges n lines done
+  are_all = subst (λ (edges : List (ℕ × ℕ)). AreEdges n lines edges) (append-nil done) (all.back [] tt)
+
+  pub only_all : (edges : List (ℕ × ℕ)) → AreEdges n lines edges → edges ≡ done
+  only_all edges are = let on = all.onward edges are in none_left n done edges on.0 on.1 on.2
+
+pub in_order : (edges : List (ℕ × ℕ)) (u v : ℕ) → u < v → are_adjacent edges u v ≡ is_edge edges u v
+in_order edges u v order =
+    let low : min u v ≡ u = omega arith in
+    let high : max u v ≡ v = omega arith in
+    λ i. is_edge edges (low i) (high i)

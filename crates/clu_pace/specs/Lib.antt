@@ -1,0 +1,5 @@
+pub mod Graph
+pub mod Numbers
+pub mod NumberLaws
+pub mod Pace
+pub mod Table

@@ -1,0 +1,78 @@
+-- The text of a graph, after the file format of the PACE 2021 challenge, exact track: the kept lines are a header
+-- `p cep n m` and then m edges.
+use Rattle.std.specs.Prelude.{◌≡◌, ◌≢◌, ◌==◌, ℕ, ◌-◌, ◌<◌, ◌≤◌, ◌^◌, Bool, false, List, [], ◌∷◌, codes, filter, length, map, max, min, not, slice_index}
+use Rattle.clu_text.specs.Lines.{lines_of, fields_of}
+use Rattle.clu_text.specs.Numbers.{IsNumber}
+use Rattle.clu_pace.specs.Graph.{PaceGraph, is_edge}
+
+-- a line is kept if it has a field and its first field doesn't begin with 'c'
+abbrev pub is_kept : List (List ℕ) → Bool
+is_kept [] = false
+is_kept (first ∷ fields) = not (slice_index first 0 == 99)
+
+-- the fields of each kept line
+abbrev pub kept_lines : List ℕ → List (List (List ℕ))
+kept_lines bytes = filter is_kept (map fields_of (lines_of bytes))
+
+-- the same of numbered lines
+abbrev pub kept_of : List (ℕ × List ℕ) → List (List (List ℕ))
+kept_of lines = filter is_kept (map (λ line. fields_of line.1) lines)
+
+-- a field is a number that fits 32 bits
+abbrev pub IsU32 : List ℕ → ℕ → Type 0
+IsU32 field value = IsNumber field value × (value < 2 ^ 32)
+
+-- the header `p cep n m`
+pub record IsHeader (line : List (List ℕ)) (n m : ℕ) : Type 0 where
+  pub vertices : List ℕ
+  pub edges : List ℕ
+  pub words : line ≡ codes "p" ∷ codes "cep" ∷ vertices ∷ edges ∷ []
+  pub vertices_is : IsU32 vertices n
+  pub edges_is : IsU32 edges m
+
+-- a line of two different numbers from 1 to n, which stand for a pair of vertices, the smaller first
+pub record IsEdgeLine (n : ℕ) (line : List (List ℕ)) (edge : ℕ × ℕ) : Type 0 where
+  pub one : List ℕ
+  pub two : List ℕ
+  pub u : ℕ
+  pub v : ℕ
+  pub words : line ≡ one ∷ two ∷ []
+  pub u_is : IsU32 one u
+  pub v_is : IsU32 two v
+  pub u_in : (0 < u) × (u ≤ n)
+  pub v_in : (0 < v) × (v ≤ n)
+  pub differ : u ≢ v
+  pub edge_is : edge ≡ (min u v - 1, max u v - 1)
+
+-- each line is its edge, in order
+abbrev pub AreEdges : ℕ → List (List (List ℕ)) → List (ℕ × ℕ) → Type 0
+AreEdges n [] [] = Unit {0}
+AreEdges n [] (edge ∷ edges) = ⊥
+AreEdges n (line ∷ lines) [] = ⊥
+AreEdges n (line ∷ lines) (edge ∷ edges) = IsEdgeLine n line edge × AreEdges n lines edges
+
+-- no pair stands twice
+abbrev pub NoneTwice : List (ℕ × ℕ) → Type 0
+NoneTwice [] = Unit {0}
+NoneTwice (edge ∷ edges) = (is_edge edges edge.0 edge.1 ≡ false) × NoneTwice edges
+
+-- the lines are these edges, m in number and none twice
+pub record AreAllEdges (n m : ℕ) (lines : List (List (List ℕ))) (edges : List (ℕ × ℕ)) : Type 0 where
+  pub each : AreEdges n lines edges
+  pub once : NoneTwice edges
+  pub counted : length edges ≡ m
+
+-- the bytes are a text of the graph: the first kept line is a header with its numbers of vertices and edges, and the
+-- others are its edges
+pub record IsPace (bytes : List ℕ) (graph : PaceGraph) : Type 0 where
+  pub header : List (List ℕ)
+  pub lines : List (List (List ℕ))
+  pub count : ℕ
+  pub kept : kept_lines bytes ≡ header ∷ lines
+  pub header_is : IsHeader header graph.n count
+  pub edges_are : AreAllEdges graph.n count lines graph.edges
+
+-- the bytes are a text of the graph, and it has at most 1,000 vertices
+pub record IsAccepted (bytes : List ℕ) (graph : PaceGraph) : Type 0 where
+  pub text : IsPace bytes graph
+  pub small : graph.n ≤ 1000
