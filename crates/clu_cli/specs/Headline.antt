@@ -3,7 +3,7 @@ use Rattle.std.specs.Prelude.{◌≡◌, ◌↔◌, ℕ, zero, suc, pos, ◌<◌
 use Rattle.std.specs.Global.{Global}
 use Rattle.clu_outside.specs.Folder.{Told, one_call_later, Holds, HoldsMore, Lacks}
 use Rattle.clu_outside.specs.Sink.{TakesSome, with_bytes}
-use Rattle.clu_partition.specs.Partition.{IsPartition}
+use Rattle.clu_partition.specs.Partition.{EachOnce, IsPartition, blocks_of}
 use Rattle.clu_pace.specs.Graph.{PaceGraph}
 use Rattle.clu_pace.specs.Numbers.{graph_names}
 use Rattle.clu_pace.specs.Pace.{IsAccepted}
@@ -13,14 +13,15 @@ use Rattle.clu_cli.specs.Neighbours.{BlocksAreAlike}
 use Rattle.clu_cli.specs.Report.{report}
 use Rattle.clu_cli.specs.Words.{IsSolve}
 
--- The bytes are a text of a graph. What is printed is the report of a partition of its vertices, which has exactly the
--- printed number of edits, and no partition has fewer than the printed bound. The status is 0 exactly where the two are
--- equal. Two vertices share a block exactly where their closed neighbourhoods are equal.
+-- The bytes are a text of a graph. What is printed is the report of a partition whose blocks hold each vertex exactly
+-- once. It costs exactly the printed number of edits, and no partition costs fewer than the printed bound. The status
+-- is 0 exactly where the two are equal. Two vertices share a block exactly where their closed neighbourhoods are equal.
 pub record IsAnswer (bytes printed : List ℕ) (status : ℕ) : Type 0 where
   pub graph : PaceGraph
   pub accepted : IsAccepted bytes graph
   pub labels : List ℕ
   pub partition : IsPartition graph.n labels
+  pub each_once : EachOnce graph.n (blocks_of labels)
   pub alike : BlocksAreAlike graph labels
   pub facts : Facts
   pub vertices : facts.vertices ≡ graph.n

@@ -1,5 +1,5 @@
 ghost use Rattle.std.specs.Prelude.{◌≡◌, ◌≤◌, ◌<◌, ◌↔◌, ℕ, IfOk, IsTrue};
-ghost use Rattle.clu_partition.specs.Partition.{IsPartition};
+ghost use Rattle.clu_partition.specs.Partition.{EachOnce, IsPartition, blocks_of};
 ghost use Rattle.clu_cli.specs.Neighbours.{AreAlike, BlocksAreAlike, is_near as near};
 
 use clu_pace::Graph;
@@ -52,6 +52,7 @@ fn first_alike(graph: &Graph, v: u32) -> u32
 #[tactic(auto, using(crate::proofs::FirstAlike::first_none, crate::proofs::FirstAlike::first_more, crate::proofs::FirstAlike::blocks_alike))]
 pub fn alike_blocks(alloc: Global, graph: &Graph) -> Result<Partition, AllocError>
     ensures partition { IfOk result (λ p. IsPartition graph.now.n p) }
+    ensures once { IfOk result (λ p. EachOnce graph.now.n (blocks_of p)) }
     ensures alike { IfOk result (λ p. BlocksAreAlike graph.now p) }
 {
     let n = graph.n();

@@ -105,3 +105,6 @@ pub fn run<F: Folder, O: Sink, E: Sink>(
         }
     }
 }
+
+#[cfg(test)]
+mod tests;

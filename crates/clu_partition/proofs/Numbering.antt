@@ -1,10 +1,11 @@
 -- The labels numbered so far.
-use Rattle.std.proofs.Common.{◌≡◌, ℕ, ◌+◌, ◌<◌, ◌≤◌, List, [], ◌∷◌, ◌++◌, length, max, get_or, refl, sym, ◌∙◌, ap, inl, inr, arith, length-append}
+use Rattle.std.proofs.Common.{◌≡◌, ℕ, ◌+◌, ◌<◌, ◌≤◌, List, [], ◌∷◌, ◌++◌, length, max, get_or, refl, sym, ◌∙◌, ap, subst, inl, inr, arith, length-append}
 use Rattle.std.proofs.Math.Seq.{get_or-append_seam}
 use Rattle.std.proofs.lemmas.Bool.{cases_lt, cases_order}
 use Rattle.std.proofs.lemmas.List.{get_or_append_left}
-use Rattle.clu_partition.specs.Partition.{IsNumberedFrom, IsPartition, SameBlocks, block_count_of}
+use Rattle.clu_partition.specs.Partition.{EachOnce, IsNumberedFrom, IsPartition, SameBlocks, block_count_of, blocks_of}
 use Rattle.clu_partition.specs.Placing.{IsApart, Places}
+use Rattle.clu_partition.proofs.Once.{each_once}
 
 pub record Numbering (labels : List ℕ) (i : ℕ) (firsts numbered : List ℕ) : Type 0 where
   pub count : length numbered ≡ i
@@ -77,3 +78,6 @@ module _ (labels firsts numbered : List ℕ) (all : Numbering labels (length lab
       let pu = all.placed u at_u in
       let pv = all.placed v at_v in
       ((λ e. one_place _ _ pu.0 pv.0 (pu.1 ∙ e ∙ sym pv.1)), (λ e. sym pu.1 ∙ ap (λ (n : ℕ). get_or firsts n 0) e ∙ pv.1))
+
+  pub once : EachOnce (length labels) (blocks_of numbered)
+  once = subst (λ (n : ℕ). EachOnce n (blocks_of numbered)) all.count (each_once numbered)

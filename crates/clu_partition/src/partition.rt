@@ -1,5 +1,5 @@
 ghost use Rattle.std.specs.Prelude.{◌≡◌, ◌≤◌, ◌<◌, ◌++◌, ◌∷◌, [], ℕ, length, IfOk, OnOk, replicate, slice_index};
-ghost use Rattle.clu_partition.specs.Partition.{IsPartition, SameBlocks, block_count_of, blocks_of};
+ghost use Rattle.clu_partition.specs.Partition.{EachOnce, IsPartition, SameBlocks, block_count_of, blocks_of};
 ghost use Rattle.clu_partition.specs.Placing.{IsApart, Places};
 
 use crate::Vertex;
@@ -70,6 +70,7 @@ impl Partition {
         requires { length labels.now ≤ 1000 }
         ensures partition { IfOk result (λ p. IsPartition (length labels.now) p) }
         ensures same { IfOk result (λ p. SameBlocks labels.now p) }
+        ensures once { IfOk result (λ p. EachOnce (length labels.now) (blocks_of p)) }
     {
         let mut firsts: Vec<u32> = Vec::new(alloc);
         let mut numbered: Vec<u32> = Vec::with_capacity(alloc, labels.len())?;

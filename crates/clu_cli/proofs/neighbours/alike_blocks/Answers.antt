@@ -1,5 +1,5 @@
-use Rattle.std.proofs.Common.{ℕ, List, subst, arith, ◌≡◌}
-use Rattle.clu_partition.specs.Partition.{SameBlocks}
+use Rattle.std.proofs.Common.{ℕ, List, length, subst, ap, arith, ◌≡◌, ◌∙◌}
+use Rattle.clu_partition.specs.Partition.{EachOnce, SameBlocks, blocks_of}
 use Rattle.clu_cli.proofs.FirstAlike.{FirstAlike, first_more, blocks_alike}
 use Rattle.clu_cli.proofs.neighbours.alike_blocks.Goals as goal
 
@@ -13,3 +13,9 @@ returns-clause-alike c =
     let all = subst (λ (n : ℕ). FirstAlike c.args.graph.now n c.loop-v.labels.items) end c.loop-v.invariant in
     let same = subst (λ (ls : List ℕ). SameBlocks ls c.in_ok-partition.partition) c.deref.ensures.value c.in_ok-partition.ensures.same in
     blocks_alike c.args.graph.now c.loop-v.labels.items all c.in_ok-partition.partition same
+
+pub returns-clause-once : goal.returns-clause-once
+returns-clause-once c =
+    let end : c.loop-v.v ≡ c.args.graph.now.n = omega arith in
+    let count : length c.deref.result.now ≡ c.args.graph.now.n = ap length c.deref.ensures.value ∙ c.loop-v.invariant.count ∙ end in
+    subst (λ (n : ℕ). EachOnce n (blocks_of c.in_ok-partition.partition)) count c.in_ok-partition.ensures.once
