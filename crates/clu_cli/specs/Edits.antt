@@ -14,7 +14,8 @@ cut_edges graph labels = count_by (λ e. not (share_block labels e.0 e.1)) graph
 
 -- the pairs inside blocks without an edge
 abbrev pub missing_edges : PaceGraph → List ℕ → ℕ
-missing_edges graph labels = count_pairs (λ u v. share_block labels u v && not (are_adjacent graph.edges u v)) (below graph.n)
+missing_edges graph labels =
+    count_pairs (λ u v. share_block labels u v && not (are_adjacent graph.edges u v)) (below graph.n)
 
 abbrev pub edits : PaceGraph → List ℕ → ℕ
 edits graph labels = cut_edges graph labels + missing_edges graph labels

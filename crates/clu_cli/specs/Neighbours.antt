@@ -12,4 +12,5 @@ AreAlike graph u v = (w : ℕ) → w < graph.n → is_near graph u w ≡ is_near
 
 -- two vertices share a block exactly where they are alike
 abbrev pub BlocksAreAlike : PaceGraph → List ℕ → Type 0
-BlocksAreAlike graph labels = (u v : ℕ) → u < graph.n → v < graph.n → (slice_index labels u ≡ slice_index labels v) ↔ AreAlike graph u v
+BlocksAreAlike graph labels =
+    (u v : ℕ) → u < graph.n → v < graph.n → (slice_index labels u ≡ slice_index labels v) ↔ AreAlike graph u v

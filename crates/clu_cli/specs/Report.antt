@@ -1,17 +1,22 @@
 -- The report of a solved graph.
-use Rattle.std.specs.Prelude.{ℕ, List, [], ◌∷◌, ◌++◌, codes, if◌then◌else◌, slice_index_or}
+use Rattle.std.specs.Prelude.{ℕ, Bool, List, [], ◌∷◌, ◌++◌, codes, if◌then◌else◌, slice_index_or}
 use Rattle.std.specs.List.{flat_map}
 use Rattle.std.specs.Ordering.{int_eq}
 use Rattle.std.specs.Fmt.{decimal, signed_decimal}
+use Rattle.clu_text.specs.Lines.{line_feed, space}
 use Rattle.clu_partition.specs.Partition.{block_count_of, blocks_of}
 use Rattle.clu_cli.specs.declared.report.Facts.{Facts}
 
 -- a line and its end
 abbrev pub line : List ℕ → List ℕ
-line text = text ++ 10 ∷ []
+line text = text ++ line_feed ∷ []
+
+-- the value is the bound
+abbrev pub optimal : Facts → Bool
+optimal facts = int_eq facts.value facts.bound
 
 unfoldable pub verdict : Facts → List ℕ
-verdict facts = if int_eq facts.value facts.bound then codes "optimal" else codes "gap branchings"
+verdict facts = if optimal facts then codes "optimal" else codes "gap branchings"
 
 -- the lines before the blocks
 unfoldable pub head : Facts → ℕ → List ℕ
@@ -27,7 +32,7 @@ head facts blocks =
 
 -- a vertex's name after a space
 abbrev pub named : List (List ℕ) → ℕ → List ℕ
-named names v = 32 ∷ slice_index_or names v []
+named names v = space ∷ slice_index_or names v []
 
 -- the line of a block
 unfoldable pub block_line : List (List ℕ) → List ℕ → List ℕ

@@ -19,8 +19,10 @@ pub struct Answer {
 
 /// Reads a graph from the bytes of a file and solves it.
 pub fn answer_of(alloc: Global, bytes: &[u8]) -> Result<Answer, Stop>
-    ensures answer { IfOk result (λ answer. IsAnswer bytes.now answer.text.items (if answer.optimal then 0 else 1)) }
-    ensures refused { IsErrOf result Stop.Refused → (graph : PaceGraph) → IsAccepted bytes.now graph → ⊥ }
+    ensures answer { IfOk result (λ answer.
+        IsAnswer bytes.now answer.text.items (if answer.optimal then 0 else 1)) }
+    ensures refused { IsErrOf result Stop.Refused
+        → (graph : PaceGraph) → IsAccepted bytes.now graph → ⊥ }
     ensures only { IfErr result (λ stop. (stop ≡ Stop.Refused) ⊎ (stop ≡ Stop.Memory)) }
 {
     let graph = match read_pace(alloc, bytes) {
@@ -38,6 +40,6 @@ pub fn answer_of(alloc: Global, bytes: &[u8]) -> Result<Answer, Stop>
     let text = report_text(alloc, facts, &partition, &graph)?;
     Ok(Answer {
         text,
-        optimal: value == 0,
+        optimal: facts.is_optimal(),
     })
 }

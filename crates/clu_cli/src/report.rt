@@ -1,7 +1,7 @@
-ghost use Rattle.std.specs.Prelude.{◌≡◌, ◌<◌, ◌++◌, length, All, IfOk, OnOk};
+ghost use Rattle.std.specs.Prelude.{◌≡◌, ◌↔◌, ◌<◌, ◌++◌, length, All, IfOk, IsTrue, OnOk};
 ghost use Rattle.std.specs.Fmt.{signed_decimal};
 ghost use Rattle.clu_partition.specs.Partition.{block_count_of};
-ghost use Rattle.clu_cli.specs.Report.{report, head, line, verdict, block_line};
+ghost use Rattle.clu_cli.specs.Report.{block_line, head, line, optimal, report, verdict};
 
 use clu_partition::{Names, Partition, Vertex};
 use clu_text::push_number;
@@ -16,6 +16,16 @@ pub struct Facts {
     pub bound: i128,
 }
 
+impl Facts {
+    /// Whether the value is the bound.
+    pub fn is_optimal(self) -> bool
+        ensures test { result ≡ optimal self }
+        ensures equal { IsTrue result ↔ (self.value ≡ self.bound) }
+    {
+        self.value == self.bound
+    }
+}
+
 /// A line of a word, which has its blank, and a text.
 fn push_text(out: &mut Vec<u8>, word: &str, text: &str) -> Result<(), AllocError>
     ensures { OnOk result (out.new.items ≡ out.old.items ++ line (word.now ++ text.now)) }
@@ -28,7 +38,8 @@ fn push_text(out: &mut Vec<u8>, word: &str, text: &str) -> Result<(), AllocError
 
 /// A line of a word, which has its blank, and a number.
 fn push_field(out: &mut Vec<u8>, word: &str, value: i128) -> Result<(), AllocError>
-    ensures { OnOk result (out.new.items ≡ out.old.items ++ line (word.now ++ signed_decimal value)) }
+    ensures { OnOk result (out.new.items ≡ out.old.items
+        ++ line (word.now ++ signed_decimal value)) }
 {
     out.extend_from_slice(word.as_bytes())?;
     push_number(out, value)?;
@@ -40,7 +51,7 @@ fn push_field(out: &mut Vec<u8>, word: &str, value: i128) -> Result<(), AllocErr
 fn verdict_text(facts: Facts) -> &'static str
     ensures { result.now ≡ verdict facts }
 {
-    if facts.value == facts.bound {
+    if facts.is_optimal() {
         "optimal"
     } else {
         "gap branchings"
@@ -68,7 +79,8 @@ fn head_text(alloc: Global, facts: Facts, blocks: u32) -> Result<Vec<u8>, AllocE
 #[tactic(auto, unfolding(crate::specs::Report::block_line))]
 fn push_block<N: Names>(out: &mut Vec<u8>, names: &N, block: &[Vertex]) -> Result<(), AllocError>
     requires { All (λ v. v < length (N.names names.now)) block.now }
-    ensures { OnOk result (out.new.items ≡ out.old.items ++ block_line (N.names names.now) block.now) }
+    ensures { OnOk result (out.new.items ≡ out.old.items
+        ++ block_line (N.names names.now) block.now) }
 {
     out.extend_from_slice(b"block")?;
     for v in block {

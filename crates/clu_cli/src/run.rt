@@ -21,18 +21,26 @@ fn work<F: Folder, O: Sink>(
     folder: &mut F,
     out: &mut O,
 ) -> Result<bool, Stop>
-    ensures answers { IfOk result (λ optimal. Answers words.now (F.told folder.old) (O.written out.old) (O.written out.new) (if optimal then 0 else 1)) }
+    ensures answers { IfOk result (λ optimal. Answers words.now (F.told folder.old)
+        (O.written out.old) (O.written out.new) (if optimal then 0 else 1)) }
     ensures refused { IsErrOf result Stop.Refused → IsRefused words.now (F.told folder.old) }
     ensures words { IsErrOf result Stop.Words ↔ ((file : List ℕ) → IsSolve words.now file → ⊥) }
-    ensures read_fault { IsErrOf result Stop.ReadFault → Rose (F.load_faults folder.old) (F.load_faults folder.new) }
-    ensures no_read_fault { (IsErrOf result Stop.ReadFault → ⊥) → F.load_faults folder.new ≡ F.load_faults folder.old }
-    ensures write_fault { IsErrOf result Stop.WriteFault → Rose (O.faults out.old) (O.faults out.new) }
-    ensures no_write_fault { (IsErrOf result Stop.WriteFault → ⊥) → O.faults out.new ≡ O.faults out.old }
-    ensures cut_short { IsErrOf result Stop.WriteFault → IsCutShort words.now (F.told folder.old) (O.written out.old) (O.written out.new) }
-    ensures memory { IsErrOf result Stop.Memory → (O.written out.new ≡ O.written out.old) ⊎ IsCutShort words.now (F.told folder.old) (O.written out.old) (O.written out.new) }
+    ensures read_fault { IsErrOf result Stop.ReadFault
+        → Rose (F.load_faults folder.old) (F.load_faults folder.new) }
+    ensures no_read_fault { (IsErrOf result Stop.ReadFault → ⊥)
+        → F.load_faults folder.new ≡ F.load_faults folder.old }
+    ensures write_fault { IsErrOf result Stop.WriteFault
+        → Rose (O.faults out.old) (O.faults out.new) }
+    ensures no_write_fault { (IsErrOf result Stop.WriteFault → ⊥)
+        → O.faults out.new ≡ O.faults out.old }
+    ensures cut_short { IsErrOf result Stop.WriteFault
+        → IsCutShort words.now (F.told folder.old) (O.written out.old) (O.written out.new) }
+    ensures memory { IsErrOf result Stop.Memory → (O.written out.new ≡ O.written out.old)
+        ⊎ IsCutShort words.now (F.told folder.old) (O.written out.old) (O.written out.new) }
     ensures too_long { IsErrOf result Stop.TooLong → IsTooLong words.now (F.told folder.old) }
     ensures absent { IsErrOf result Stop.NoFile → IsAbsent words.now (F.told folder.old) }
-    ensures quiet { IfErr result (λ stop. (stop ≡ Stop.WriteFault) ⊎ (stop ≡ Stop.Memory) ⊎ (O.written out.new ≡ O.written out.old)) }
+    ensures quiet { IfErr result (λ stop. (stop ≡ Stop.WriteFault) ⊎ (stop ≡ Stop.Memory)
+        ⊎ (O.written out.new ≡ O.written out.old)) }
     ensures folder { KeepsFiles 1 (F.told folder.old) (F.told folder.new) }
     ensures unasked { IsErrOf result Stop.Words → F.told folder.new ≡ F.told folder.old }
     ensures stores { F.store_faults folder.new ≡ F.store_faults folder.old }
@@ -73,7 +81,8 @@ pub fn run<F: Folder, O: Sink, E: Sink>(
     err: &mut E,
 ) -> u8
     // The printed blocks, their edits, the bound and the verdict are those of the file.
-    ensures answers { result ≤ 1 → Answers words.now (F.told folder.old) (O.written out.old) (O.written out.new) result }
+    ensures answers { result ≤ 1
+        → Answers words.now (F.told folder.old) (O.written out.old) (O.written out.new) result }
 
     // Each other status has its cause.
     ensures refused { result ≡ 4 → IsRefused words.now (F.told folder.old) }
@@ -87,9 +96,12 @@ pub fn run<F: Folder, O: Sink, E: Sink>(
     ensures known { IsTrue (is_status result) }
 
     // What each leaves: nothing or a prefix of the report, a line on err, and the files as they were.
-    ensures cut_short { result ≡ 8 → IsCutShort words.now (F.told folder.old) (O.written out.old) (O.written out.new) }
-    ensures memory { result ≡ 9 → (O.written out.new ≡ O.written out.old) ⊎ IsCutShort words.now (F.told folder.old) (O.written out.old) (O.written out.new) }
-    ensures quiet { 2 ≤ result → result ≢ 8 → result ≢ 9 → O.written out.new ≡ O.written out.old }
+    ensures cut_short { result ≡ 8
+        → IsCutShort words.now (F.told folder.old) (O.written out.old) (O.written out.new) }
+    ensures memory { result ≡ 9 → (O.written out.new ≡ O.written out.old)
+        ⊎ IsCutShort words.now (F.told folder.old) (O.written out.old) (O.written out.new) }
+    ensures quiet { 2 ≤ result → result ≢ 8 → result ≢ 9
+        → O.written out.new ≡ O.written out.old }
     ensures silent { result ≤ 1 → E.written err.new ≡ E.written err.old }
     ensures line { 2 ≤ result → WritesLine (E.written err.old) (E.written err.new) result }
     ensures folder { KeepsFiles 1 (F.told folder.old) (F.told folder.new) }

@@ -1,5 +1,5 @@
 ghost use Rattle.std.specs.Prelude.{◌≡◌, ◌↔◌, ℕ, List, IsTrue, MatchOption, codes, slice_index};
-ghost use Rattle.clu_cli.specs.Words.{IsSolve};
+ghost use Rattle.clu_cli.specs.Words.{IsSolve, dash};
 
 /// The words of `solve`.
 #[derive(Clone, Copy)]
@@ -8,7 +8,7 @@ pub struct Solve<'a> {
 }
 
 fn is_option(word: &str) -> bool
-    ensures { IsTrue result ↔ (slice_index word.now 0 ≡ 45) }
+    ensures { IsTrue result ↔ (slice_index word.now 0 ≡ dash) }
 {
     match word.as_bytes() {
         [b'-', ..] => true,
@@ -24,7 +24,8 @@ fn is_solve(word: &str) -> bool
 
 /// Reads `solve FILE`; `None` where the words are others.
 pub fn read_words(words: &[String]) -> Option<Solve<'_>>
-    ensures { MatchOption result ((file : List ℕ) → IsSolve words.now file → ⊥) (λ solve. IsSolve words.now solve.file.now) }
+    ensures { MatchOption result ((file : List ℕ) → IsSolve words.now file → ⊥)
+        (λ solve. IsSolve words.now solve.file.now) }
 {
     match words {
         [command, file] => {

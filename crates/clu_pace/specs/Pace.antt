@@ -5,10 +5,14 @@ use Rattle.clu_text.specs.Lines.{lines_of, fields_of}
 use Rattle.clu_text.specs.Numbers.{IsNumber}
 use Rattle.clu_pace.specs.Graph.{PaceGraph, is_edge}
 
--- a line is kept if it has a field and its first field doesn't begin with 'c'
+-- what a comment begins with: 'c'
+abbrev pub comment_mark : ℕ
+comment_mark = 99
+
+-- a line is kept if it has a field and its first field begins no comment
 abbrev pub is_kept : List (List ℕ) → Bool
 is_kept [] = false
-is_kept (first ∷ fields) = not (slice_index first 0 == 99)
+is_kept (first ∷ fields) = not (slice_index first 0 == comment_mark)
 
 -- the fields of each kept line
 abbrev pub kept_lines : List ℕ → List (List (List ℕ))

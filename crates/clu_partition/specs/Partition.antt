@@ -22,7 +22,9 @@ share_block labels u v = nat_eq (slice_index labels u) (slice_index labels v)
 
 -- two lists of labels divide the vertices in the same way
 abbrev pub SameBlocks : List ℕ → List ℕ → Type 0
-SameBlocks labels others = (u v : ℕ) → u < length labels → v < length labels → (slice_index labels u ≡ slice_index labels v) ↔ (slice_index others u ≡ slice_index others v)
+SameBlocks labels others =
+    (u v : ℕ) → u < length labels → v < length labels
+    → (slice_index labels u ≡ slice_index labels v) ↔ (slice_index others u ≡ slice_index others v)
 
 -- the number of blocks, which is 0 without vertices
 abbrev pub block_count_of : List ℕ → ℕ
