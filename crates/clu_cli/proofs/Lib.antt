@@ -1,4 +1,4 @@
+pub mod Causes
 pub mod Counting
 pub mod FirstAlike
 pub mod Printing
-pub mod Stops

@@ -1,5 +1,5 @@
 -- The exit statuses, and the lines on err.
-use Rattle.std.specs.Prelude.{◌≡◌, ℕ, Bool, ◌==◌, ◌||◌, ◌&&◌, List, Option, codes, nat_le}
+use Rattle.std.specs.Prelude.{◌≡◌, ℕ, Bool, ◌==◌, ◌||◌, ◌&&◌, List, Option, Result, Ok, Err, codes, if◌then◌else◌, nat_le}
 use Rattle.clu_outside.specs.Sink.{TakesSome}
 use Rattle.clu_cli.specs.declared.stop.Stop.{Stop}
 use Rattle.clu_cli.specs.declared.stop.Stop.TheVariants.{Refused, Words, ReadFault, WriteFault, Memory, TooLong, NoFile}
@@ -12,6 +12,11 @@ status WriteFault = 8
 status Memory = 9
 status TooLong = 10
 status NoFile = 11
+
+-- how the work ended: whether the answer is optimal, or why there is none
+abbrev pub end_status : Result Bool Stop → ℕ
+end_status (Ok optimal) = if optimal then 0 else 1
+end_status (Err stop) = status stop
 
 unfoldable pub err_line : Stop → List ℕ
 err_line Refused = codes "clu: graph Refused\n"

@@ -1,4 +1,4 @@
-ghost use Rattle.std.specs.Prelude.{◌≡◌, ◌⊎◌, IfOk, IfErr, IsErrOf, if◌then◌else◌};
+ghost use Rattle.std.specs.Prelude.{IfOk, IsErrOf, if◌then◌else◌};
 ghost use Rattle.clu_pace.specs.Graph.{PaceGraph};
 ghost use Rattle.clu_pace.specs.Pace.{IsAccepted};
 ghost use Rattle.clu_cli.specs.Headline.{IsAnswer};
@@ -6,7 +6,6 @@ ghost use Rattle.clu_cli.specs.Headline.{IsAnswer};
 use crate::edits::count_edits;
 use crate::neighbours::alike_blocks;
 use crate::report::{Facts, report_text};
-use crate::stop::Stop;
 use clu_pace::{PaceError, read_pace};
 use std::alloc::Global;
 
@@ -17,19 +16,14 @@ pub struct Answer {
     pub optimal: bool,
 }
 
-/// Reads a graph from the bytes of a file and solves it.
-pub fn answer_of(alloc: Global, bytes: &[u8]) -> Result<Answer, Stop>
+/// Reads a graph from the bytes of a file and solves it. The errors are those of the reader.
+pub fn answer_of(alloc: Global, bytes: &[u8]) -> Result<Answer, PaceError>
     ensures answer { IfOk result (λ answer.
         IsAnswer bytes.now answer.text.items (if answer.optimal then 0 else 1)) }
-    ensures refused { IsErrOf result Stop.Refused
+    ensures refused { IsErrOf result PaceError.Refused
         → (graph : PaceGraph) → IsAccepted bytes.now graph → ⊥ }
-    ensures only { IfErr result (λ stop. (stop ≡ Stop.Refused) ⊎ (stop ≡ Stop.Memory)) }
 {
-    let graph = match read_pace(alloc, bytes) {
-        Ok(graph) => graph,
-        Err(PaceError::Refused) => return Err(Stop::Refused),
-        Err(PaceError::Memory) => return Err(Stop::Memory),
-    };
+    let graph = read_pace(alloc, bytes)?;
     let partition = alike_blocks(alloc, &graph)?;
     let value = count_edits(&graph, &partition);
     let facts = Facts {

@@ -1,48 +1,46 @@
-ghost use Rattle.std.specs.Prelude.{◌≡◌, ◌≢◌, ◌↔◌, ◌≤◌, ◌⊎◌, ℕ, List, IsTrue, IfOk, IfErr, IsErrOf, if◌then◌else◌};
+ghost use Rattle.std.specs.Prelude.{◌≡◌, ◌≢◌, ◌↔◌, ◌≤◌, ◌⊎◌, ℕ, List, IsTrue};
 ghost use Rattle.clu_outside.specs.Counts.{Rose};
-ghost use Rattle.clu_outside.specs.Sink.{TakesSome};
 ghost use Rattle.clu_cli.specs.Headline.{Answers, IsRefused, IsAbsent, IsTooLong, IsCutShort, KeepsFiles};
-ghost use Rattle.clu_cli.specs.Status.{err_line, is_status, WritesLine};
+ghost use Rattle.clu_cli.specs.Status.{end_status, is_status, WritesLine};
 ghost use Rattle.clu_cli.specs.Words.{IsSolve};
 
 use crate::answer::answer_of;
 use crate::stop::{Stop, line_of, status_of};
 use crate::words::read_words;
 use clu_outside::{Folder, LoadErr, Sink, WriteErr, write_whole};
+use clu_pace::PaceError;
 use std::alloc::Global;
 
 /// The largest length of a graph file, in bytes.
 const MAX_BYTES: u64 = 67_108_864;
 
 /// Loads the graph, solves it and writes the report; says whether its value is its bound.
+#[tactic(auto, using(crate::proofs::Causes::one_load))]
 fn work<F: Folder, O: Sink>(
     alloc: Global,
     words: &[String],
     folder: &mut F,
     out: &mut O,
 ) -> Result<bool, Stop>
-    ensures answers { IfOk result (λ optimal. Answers words.now (F.told folder.old)
-        (O.written out.old) (O.written out.new) (if optimal then 0 else 1)) }
-    ensures refused { IsErrOf result Stop.Refused → IsRefused words.now (F.told folder.old) }
-    ensures words { IsErrOf result Stop.Words ↔ ((file : List ℕ) → IsSolve words.now file → ⊥) }
-    ensures read_fault { IsErrOf result Stop.ReadFault
-        → Rose (F.load_faults folder.old) (F.load_faults folder.new) }
-    ensures no_read_fault { (IsErrOf result Stop.ReadFault → ⊥)
-        → F.load_faults folder.new ≡ F.load_faults folder.old }
-    ensures write_fault { IsErrOf result Stop.WriteFault
-        → Rose (O.faults out.old) (O.faults out.new) }
-    ensures no_write_fault { (IsErrOf result Stop.WriteFault → ⊥)
-        → O.faults out.new ≡ O.faults out.old }
-    ensures cut_short { IsErrOf result Stop.WriteFault
+    ensures answers { end_status result ≤ 1
+        → Answers words.now (F.told folder.old) (O.written out.old) (O.written out.new) (end_status result) }
+    ensures refused { end_status result ≡ 4 → IsRefused words.now (F.told folder.old) }
+    ensures words { (end_status result ≡ 6) ↔ ((file : List ℕ) → IsSolve words.now file → ⊥) }
+    ensures read_fault { end_status result ≡ 7 → Rose (F.load_faults folder.old) (F.load_faults folder.new) }
+    ensures no_read_fault { end_status result ≢ 7 → F.load_faults folder.new ≡ F.load_faults folder.old }
+    ensures write_fault { end_status result ≡ 8 → Rose (O.faults out.old) (O.faults out.new) }
+    ensures no_write_fault { end_status result ≢ 8 → O.faults out.new ≡ O.faults out.old }
+    ensures too_long { end_status result ≡ 10 → IsTooLong words.now (F.told folder.old) }
+    ensures absent { end_status result ≡ 11 → IsAbsent words.now (F.told folder.old) }
+
+    ensures cut_short { end_status result ≡ 8
         → IsCutShort words.now (F.told folder.old) (O.written out.old) (O.written out.new) }
-    ensures memory { IsErrOf result Stop.Memory → (O.written out.new ≡ O.written out.old)
+    ensures memory { end_status result ≡ 9 → (O.written out.new ≡ O.written out.old)
         ⊎ IsCutShort words.now (F.told folder.old) (O.written out.old) (O.written out.new) }
-    ensures too_long { IsErrOf result Stop.TooLong → IsTooLong words.now (F.told folder.old) }
-    ensures absent { IsErrOf result Stop.NoFile → IsAbsent words.now (F.told folder.old) }
-    ensures quiet { IfErr result (λ stop. (stop ≡ Stop.WriteFault) ⊎ (stop ≡ Stop.Memory)
-        ⊎ (O.written out.new ≡ O.written out.old)) }
+    ensures quiet { 2 ≤ end_status result → end_status result ≢ 8 → end_status result ≢ 9
+        → O.written out.new ≡ O.written out.old }
     ensures folder { KeepsFiles 1 (F.told folder.old) (F.told folder.new) }
-    ensures unasked { IsErrOf result Stop.Words → F.told folder.new ≡ F.told folder.old }
+    ensures unasked { end_status result ≡ 6 → F.told folder.new ≡ F.told folder.old }
     ensures stores { F.store_faults folder.new ≡ F.store_faults folder.old }
 {
     let Some(solve) = read_words(words) else {
@@ -55,7 +53,11 @@ fn work<F: Folder, O: Sink>(
         Err(LoadErr::TooLong) => return Err(Stop::TooLong),
         Err(LoadErr::Memory) => return Err(Stop::Memory),
     };
-    let answer = answer_of(alloc, &bytes)?;
+    let answer = match answer_of(alloc, &bytes) {
+        Ok(answer) => answer,
+        Err(PaceError::Refused) => return Err(Stop::Refused),
+        Err(PaceError::Memory) => return Err(Stop::Memory),
+    };
     match write_whole(out, &answer.text) {
         Ok(()) => Ok(answer.optimal),
         Err(WriteErr::Failed) => Err(Stop::WriteFault),
@@ -63,11 +65,22 @@ fn work<F: Folder, O: Sink>(
     }
 }
 
-/// Writes the line of a stop. What `err` doesn't take is let go.
-fn tell<E: Sink>(err: &mut E, stop: Stop)
-    ensures { TakesSome (E.written err.old) (E.written err.new) (err_line stop) }
+/// The exit status of how the work ended. Where it stopped, its line is written to `err`; what
+/// `err` doesn't take is let go.
+fn finish<E: Sink>(err: &mut E, end: Result<bool, Stop>) -> u8
+    ensures status { result ≡ end_status end }
+    ensures known { IsTrue (is_status result) }
+    ensures silent { result ≤ 1 → E.written err.new ≡ E.written err.old }
+    ensures line { 2 ≤ result → WritesLine (E.written err.old) (E.written err.new) result }
 {
-    let _ = write_whole(err, line_of(stop).as_bytes());
+    match end {
+        Ok(true) => 0,
+        Ok(false) => 1,
+        Err(stop) => {
+            let _ = write_whole(err, line_of(stop).as_bytes());
+            status_of(stop)
+        }
+    }
 }
 
 /// Runs the command that the words name, over a folder and two sinks. The answer is the exit
@@ -108,14 +121,8 @@ pub fn run<F: Folder, O: Sink, E: Sink>(
     ensures unasked { result ≡ 6 → F.told folder.new ≡ F.told folder.old }
     ensures stores { F.store_faults folder.new ≡ F.store_faults folder.old }
 {
-    match work(alloc, words, folder, out) {
-        Ok(true) => 0,
-        Ok(false) => 1,
-        Err(stop) => {
-            tell(err, stop);
-            status_of(stop)
-        }
-    }
+    let end = work(alloc, words, folder, out);
+    finish(err, end)
 }
 
 #[cfg(test)]

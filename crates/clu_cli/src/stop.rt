@@ -1,8 +1,5 @@
 ghost use Rattle.std.specs.Prelude.{◌≡◌};
 ghost use Rattle.clu_cli.specs.Status.{status, err_line};
-ghost use Rattle.clu_cli.specs.declared.stop.Stop.TheVariants.{Memory};
-
-use std::alloc::AllocError;
 
 /// Why a run has no report: the graph is refused, the words are, a load met a fault, a write did,
 /// want of memory, a file longer than the limit, or no such file.
@@ -15,14 +12,6 @@ pub enum Stop {
     Memory,
     TooLong,
     NoFile,
-}
-
-impl From<AllocError> for Stop {
-    ghost from_gives = { λ _ e. e ≡ Memory };
-
-    fn from(_: AllocError) -> Self {
-        Stop::Memory
-    }
 }
 
 /// The exit status.

@@ -1,26 +1,8 @@
-use Rattle.std.proofs.Common.{arith, subst, ℕ, List, sym}
-use Rattle.clu_pace.specs.Pace.{IsAccepted}
-use Rattle.clu_cli.proofs.Stops.{one_load}
+use Rattle.std.proofs.Common.{Err, ap, arith}
+use Rattle.clu_cli.proofs.Causes.{no_text}
 use Rattle.clu_cli.proofs.run.work.Goals as goal
 
-pub returns-in_err-answer-clause-refused : goal.returns-in_err-answer-clause-refused
-returns-in_err-answer-clause-refused g c = λ is. record {
-  bytes = c.in-Ok.bytes.items;
-  loaded = record {
-    file = c.in-Some.solve.file.now;
-    words_are = c.in-Some.ensures;
-    held = c.in-Ok.ensures.tells.found;
-    small = c.in-Ok.ensures.tells.within (omega arith);
-  };
-  no_graph = λ graph accepted.
-      c.in_err-answer.ensures.refused (grind arith) graph (subst (λ (bytes : List ℕ). IsAccepted bytes graph) (sym c.deref.ensures.value) accepted);
-}
-
-pub returns-in-Ok-write_whole-clause-folder : goal.returns-in-Ok-write_whole-clause-folder
-returns-in-Ok-write_whole-clause-folder g c = one_load _ _ c.load.ensures.tells.later
-
-pub returns-in-Err-Failed-write_whole-clause-folder : goal.returns-in-Err-Failed-write_whole-clause-folder
-returns-in-Err-Failed-write_whole-clause-folder g c = one_load _ _ c.load.ensures.tells.later
-
-pub returns-clause-folder : goal.returns-clause-folder
-returns-clause-folder g c = one_load _ _ c.load.ensures.tells.later
+pub returns-in-Err-Refused-clause-refused : goal.returns-in-Err-Refused-clause-refused
+returns-in-Err-Refused-clause-refused g c = λ _.
+    no_text c.args.words.now (g.F.Folder.told c.args.folder.now) c.in-Some.solve.file.now c.in-Ok.bytes.items c.deref.result.now
+    c.in-Some.ensures c.in-Ok.ensures.tells.found (c.in-Ok.ensures.tells.within (omega arith)) c.deref.ensures.value (c.in-Err-Refused.ensures.refused (ap Err c.in-Err-Refused.field-0-is))
