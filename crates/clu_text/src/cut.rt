@@ -171,3 +171,35 @@ impl<'a> Iterator for FieldIter<'a> {
         if end == 0 { None } else { Some(&word[..end]) }
     }
 }
+
+#[cfg(test)]
+mod tests {
+    use super::*;
+    use std::test::Fail;
+
+    #[test]
+    fn lines_end_at_line_feeds(rt: HostRuntime) -> Result<(), Fail> {
+        let mut left = lines(b"a\r\n\nb");
+        for (number, bytes) in [
+            (1, b"a".as_slice()),
+            (2, b"".as_slice()),
+            (3, b"b".as_slice()),
+        ] {
+            let line = left.next().ok_or("a line is missing")?;
+            assert_eq!(rt; line.number, number);
+            assert_eq!(rt; line.bytes, bytes, "in line {number}");
+        }
+        assert!(rt; left.next().is_none());
+        Ok(())
+    }
+
+    #[test]
+    fn fields_stand_between_blanks(rt: HostRuntime) -> Result<(), Fail> {
+        let mut left = fields(b"  x\ty ");
+        for field in [b"x".as_slice(), b"y".as_slice()] {
+            assert_eq!(rt; left.next().ok_or("a field is missing")?, field);
+        }
+        assert!(rt; left.next().is_none());
+        Ok(())
+    }
+}

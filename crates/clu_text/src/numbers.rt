@@ -33,3 +33,44 @@ pub fn push_number(out: &mut Vec<u8>, number: i128) -> Result<(), AllocError>
     let mut buffer = Buffer::new();
     out.extend_from_slice(buffer.format(number).as_bytes())
 }
+
+#[cfg(test)]
+mod tests {
+    use super::*;
+    use std::test::Fail;
+
+    #[test]
+    fn fields_of_digits_are_read(rt: HostRuntime) {
+        for (field, want) in [
+            (b"4294967295".as_slice(), Some(4294967295)),
+            (b"4294967296".as_slice(), None),
+            (b"".as_slice(), None),
+            (b"007".as_slice(), Some(7)),
+            (b"7a".as_slice(), None),
+        ] {
+            assert_eq!(rt; read_u32(field), want);
+        }
+    }
+
+    #[test]
+    fn numbers_are_written_in_decimal(rt: HostRuntime) -> Result<(), Fail> {
+        let alloc = rt.alloc();
+        for (number, want) in [
+            (-70, b"-70".as_slice()),
+            (0, b"0".as_slice()),
+            (
+                i128::MAX,
+                b"170141183460469231731687303715884105727".as_slice(),
+            ),
+            (
+                i128::MIN,
+                b"-170141183460469231731687303715884105728".as_slice(),
+            ),
+        ] {
+            let mut out = Vec::new(alloc);
+            push_number(&mut out, number)?;
+            assert_eq!(rt; out.as_slice(), want);
+        }
+        Ok(())
+    }
+}

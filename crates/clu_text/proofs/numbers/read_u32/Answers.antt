@@ -1,4 +1,4 @@
-use Rattle.std.proofs.Common.{◌≡◌, ◌*◌, ◌+◌, arith, take, get_or, sym, ap, ◌∙◌}
+use Rattle.std.proofs.Common.{rules, ◌≡◌, ◌*◌, ◌+◌, arith, take, get_or, sym, ap, ◌∙◌}
 use Rattle.std.specs.Char.{digit_value}
 use Rattle.std.specs.Str.Parse.{digits_value}
 use Rattle.std.proofs.lemmas.Int.Digits.{digits_more, digits_value_more}
@@ -9,8 +9,7 @@ use Rattle.clu_text.proofs.Digits.{not_digit, is_digit}
 use Rattle.clu_text.proofs.numbers.read_u32.Goals as goal
 
 pub returns-then-not-is_ascii_digit : goal.returns-then-not-is_ascii_digit
-returns-then-not-is_ascii_digit c =
-    λ h. not_digit _ (sym c.is_ascii_digit.ensures.value ∙ c.if-not-is_ascii_digit.true) (digit_at c.args.field.now c.loop-byte.byte-index h.0.1 c.loop-byte-test.true)
+returns-then-not-is_ascii_digit c = search (rules, not_digit, digit_at)
 
 pub loop-byte-preserved : goal.loop-byte-preserved
 loop-byte-preserved c =
