@@ -69,6 +69,7 @@ impl Folder for MemoryFolder {
         ensures tells { LoadTells (Some (told_by self.old)) (Some (told_by self.new)) name.now limit result }
         ensures cause { LoadCause (load_faults_of self.old) (load_faults_of self.new) result }
         ensures stores { ◌≡◌ {A = ℕ} 0 0 }
+        ensures counted { IsErrOf result LoadErr.Failed → load_faults_of self.new ≡ next_count (load_faults_of self.old) }
         ensures listed { IsErrOf result LoadErr.Failed ↔ Contains (failing_of self.old) (next_count (told_by self.old).calls) }
         ensures failing { failing_of self.new ≡ failing_of self.old }
     {

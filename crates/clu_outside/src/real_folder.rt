@@ -85,3 +85,36 @@ impl<'a, R: Files> Folder for RealFolder<'a, R> {
         Err(self.fault())
     }
 }
+
+#[cfg(test)]
+mod tests {
+    use super::*;
+    use std::test::Fail;
+
+    #[test]
+    fn a_load_has_a_limit_and_a_cause(rt: HostRuntime) -> Result<(), Fail> {
+        let alloc = rt.alloc();
+        fs::write(&rt, "g", b"abc".as_slice())?;
+        fs::write(&rt, "long", [b'x'; PIECE + 1].as_slice())?;
+        fs::create_dir(&rt, "folder")?;
+        let mut folder = RealFolder::new(&rt);
+        for limit in [3, u64::MAX] {
+            let bytes = folder.load(alloc, "g", limit)?;
+            assert_eq!(rt; bytes.as_slice(), b"abc".as_slice(), "at {limit}");
+        }
+        let long = PIECE as u64;
+        let bytes = folder.load(alloc, "long", long + 1)?;
+        assert_eq!(rt; bytes.as_slice(), [b'x'; PIECE + 1].as_slice());
+        for (name, limit, want) in [
+            ("g", 2, LoadErr::TooLong),
+            ("long", long, LoadErr::TooLong),
+            ("missing", 3, LoadErr::Missing),
+        ] {
+            assert_eq!(rt; folder.load(alloc, name, limit).err(), Some(want), "of {name}");
+        }
+        assert_eq!(rt; folder.load_faults, 0);
+        assert_eq!(rt; folder.load(alloc, "folder", 3).err(), Some(LoadErr::Failed));
+        assert_eq!(rt; folder.load_faults, 1);
+        Ok(())
+    }
+}

@@ -43,3 +43,56 @@ impl<W: Write + Drop> Sink for RealSink<W> {
         }
     }
 }
+
+#[cfg(test)]
+mod tests {
+    use super::*;
+    use crate::write_whole;
+    use std::io;
+    use std::test::Fail;
+
+    /// A stream that takes at most two bytes a time, until it is full. Then it fails, or answers
+    /// that it took none.
+    #[derive(Drop)]
+    struct Narrow {
+        taken: Vec<u8>,
+        room: usize,
+        fails: bool,
+    }
+
+    impl Write for Narrow {
+        fn write(&mut self, bytes: &[u8]) -> io::Result<usize> {
+            let room = self.room.saturating_sub(self.taken.len());
+            if room == 0 && self.fails {
+                return Err(io::Error::from(io::ErrorKind::StorageFull));
+            }
+            let count = bytes.len().min(room).min(2);
+            self.taken.extend_from_slice(&bytes[..count])?;
+            Ok(count)
+        }
+
+        fn flush(&mut self) -> io::Result<()> {
+            Ok(())
+        }
+    }
+
+    #[test]
+    fn a_full_stream_is_a_fault(rt: HostRuntime) -> Result<(), Fail> {
+        for (room, fails, want, taken, faults) in [
+            (5, true, Ok(()), "abcde", 0),
+            (5, false, Ok(()), "abcde", 0),
+            (3, true, Err(WriteErr::Failed), "abc", 1),
+            (3, false, Err(WriteErr::Failed), "abc", 1),
+        ] {
+            let mut sink = RealSink::new(Narrow {
+                taken: Vec::new(rt.alloc()),
+                room,
+                fails,
+            });
+            assert_eq!(rt; write_whole(&mut sink, b"abcde"), want, "at {room} {fails}");
+            assert_eq!(rt; sink.writer.taken.as_slice(), taken.as_bytes(), "at {room} {fails}");
+            assert_eq!(rt; sink.faults, faults, "at {room} {fails}");
+        }
+        Ok(())
+    }
+}

@@ -120,3 +120,61 @@ pub fn read_pace(alloc: Global, bytes: &[u8]) -> Result<Graph, PaceError>
     let graph = read_edges(alloc, n, m, &mut rest)?;
     Ok(graph)
 }
+
+#[cfg(test)]
+mod tests {
+    use super::*;
+    use std::test::Fail;
+
+    #[test]
+    fn a_text_is_read_or_refused(rt: HostRuntime) -> Result<(), Fail> {
+        let alloc = rt.alloc();
+        for (text, n, edges) in [
+            ("p cep 0 0", 0, [].as_slice()),
+            ("p cep 3 2\n1 2\n2 3\n", 3, [(0, 1), (1, 2)].as_slice()),
+            (
+                "c p cep 9 9\r\np cep 3 2\r\n\r\n3 1\r\n c1 2\r\n2 1\r\n",
+                3,
+                [(0, 2), (0, 1)].as_slice(),
+            ),
+            ("p\tcep 04  1\n\t04\t 002", 4, [(1, 3)].as_slice()),
+            ("p cep 1000 1\n1000 999\n", 1000, [(998, 999)].as_slice()),
+        ] {
+            let graph = read_pace(alloc, text.as_bytes())?;
+            assert_eq!(rt; graph.n(), n, "of {text}");
+            let pairs = graph.edges().iter().map(|edge| (edge.0.0, edge.1.0));
+            assert!(rt; pairs.eq(edges.iter().copied()), "of {text}");
+        }
+        for text in [
+            "",
+            "1 2\n",
+            "p cep 3\n",
+            "p cnf 3 0\n",
+            "p cep 3 0 0\n",
+            "p cep 1001 0\n",
+            "p cep 3 1\n",
+            "p cep 3 1\n1 2\n2 3\n",
+            "p cep 3 1\n2 2\n",
+            "p cep 3 2\n1 2\n2 1\n",
+            "p cep 3 1\n0 1\n",
+            "p cep 3 1\n1 4\n",
+            "p cep 3 1\n1 x\n",
+            "p cep 3 1\n1 2 3\n",
+        ] {
+            let refused = read_pace(alloc, text.as_bytes()).err();
+            assert_eq!(rt; refused, Some(PaceError::Refused), "of {text}");
+        }
+        Ok(())
+    }
+
+    #[test]
+    fn vertices_are_adjacent_in_both_orders(rt: HostRuntime) -> Result<(), Fail> {
+        let graph = read_pace(rt.alloc(), b"p cep 3 1\n3 1\n")?;
+        assert!(rt; graph.n() == 3);
+        assert_eq!(rt; graph.has(Vertex(0), Vertex(2)), true);
+        assert_eq!(rt; graph.has(Vertex(2), Vertex(0)), true);
+        assert_eq!(rt; graph.has(Vertex(1), Vertex(2)), false);
+        assert_eq!(rt; graph.has(Vertex(1), Vertex(1)), false);
+        Ok(())
+    }
+}

@@ -13,7 +13,7 @@ returns-in_default-read_header-clause-refused c = λ _.
 
 pub returns-then-n-gt-MAX_VERTICES-clause-refused : goal.returns-then-n-gt-MAX_VERTICES-clause-refused
 returns-then-n-gt-MAX_VERTICES-clause-refused c = λ _.
-    too_many _ _ _ (sym (kept_lines_are c.args.bytes.now) ∙ ap kept_of (sym c.lines-rest.ensures) ∙ c.in-Some.ensures) _ _ c.in-Some-read_header.ensures c.if-n-gt-MAX_VERTICES.true
+    too_many _ _ _ (sym (kept_lines_are c.args.bytes.now) ∙ ap kept_of (sym c.lines-rest.ensures) ∙ c.in-Some.ensures) _ _ c.in-Some-read_header.ensures (omega (arith, c.if-n-gt-MAX_VERTICES.true))
 
 pub returns-in_err-graph-clause-refused : goal.returns-in_err-graph-clause-refused
 returns-in_err-graph-clause-refused c = λ is.
