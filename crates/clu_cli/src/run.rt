@@ -23,11 +23,14 @@ fn work<F: Folder, O: Sink>(
     out: &mut O,
 ) -> Result<bool, Stop>
     ensures answers { end_status result ≤ 1
-        → Answers words.now (F.told folder.old) (O.written out.old) (O.written out.new) (end_status result) }
+        → Answers words.now (F.told folder.old) (O.written out.old) (O.written out.new)
+        (end_status result) }
     ensures refused { end_status result ≡ 4 → IsRefused words.now (F.told folder.old) }
     ensures words { (end_status result ≡ 6) ↔ ((file : List ℕ) → IsSolve words.now file → ⊥) }
-    ensures read_fault { end_status result ≡ 7 → Rose (F.load_faults folder.old) (F.load_faults folder.new) }
-    ensures no_read_fault { end_status result ≢ 7 → F.load_faults folder.new ≡ F.load_faults folder.old }
+    ensures read_fault { end_status result ≡ 7
+        → Rose (F.load_faults folder.old) (F.load_faults folder.new) }
+    ensures no_read_fault { end_status result ≢ 7
+        → F.load_faults folder.new ≡ F.load_faults folder.old }
     ensures write_fault { end_status result ≡ 8 → Rose (O.faults out.old) (O.faults out.new) }
     ensures no_write_fault { end_status result ≢ 8 → O.faults out.new ≡ O.faults out.old }
     ensures too_long { end_status result ≡ 10 → IsTooLong words.now (F.told folder.old) }

@@ -16,6 +16,10 @@ told_by folder = record { held = content folder.files; calls = folder.calls }
 abbrev pub load_faults_of : MemoryFolder → ℕ
 load_faults_of folder = folder.load_faults
 
+-- how many creates and appends have: a folder in memory has none
+abbrev pub store_faults_of : MemoryFolder → ℕ
+store_faults_of folder = 0
+
 -- the numbers of the calls that are to fail
 abbrev pub failing_of : MemoryFolder → List ℕ
 failing_of folder = folder.failing.items

@@ -1,7 +1,7 @@
 ghost use Rattle.std.specs.Prelude.{◌≡◌, ◌≢◌, ◌↔◌, ℕ, List, [], Some, None, OnOk, OnErr, IsErrOf, MatchOption, Contains};
 ghost use Rattle.clu_outside.specs.Counts.{next_count};
 ghost use Rattle.clu_outside.specs.Folder.{LoadTells, LoadCause};
-ghost use Rattle.clu_outside.specs.MemoryFolder.{told_by, load_faults_of, failing_of, SameCalls};
+ghost use Rattle.clu_outside.specs.MemoryFolder.{told_by, load_faults_of, store_faults_of, failing_of, SameCalls};
 
 use crate::{Folder, LoadErr};
 use std::alloc::{AllocError, Global};
@@ -37,7 +37,8 @@ impl MemoryFolder {
     /// Puts a file into the folder, in place of one of that name. This is no call of the trait.
     pub fn put(&mut self, name: &str, bytes: &[u8]) -> Result<(), AllocError>
         ensures put { OnOk result ((told_by self.new).held name.now ≡ Some bytes.now) }
-        ensures others { (other : List ℕ) → other ≢ name.now → (told_by self.new).held other ≡ (told_by self.old).held other }
+        ensures others { (other : List ℕ) → other ≢ name.now
+            → (told_by self.new).held other ≡ (told_by self.old).held other }
         ensures err { OnErr result ((told_by self.new).held ≡ (told_by self.old).held) }
         ensures calls { SameCalls self.old self.new }
     {
@@ -49,7 +50,8 @@ impl MemoryFolder {
 
     /// The bytes under a name; `None` where there is no such file.
     pub fn get(&self, name: &str) -> Option<&[u8]>
-        ensures { MatchOption result ((told_by self.now).held name.now ≡ None) (λ bytes. (told_by self.now).held name.now ≡ Some bytes.now) }
+        ensures { MatchOption result ((told_by self.now).held name.now ≡ None)
+            (λ bytes. (told_by self.now).held name.now ≡ Some bytes.now) }
     {
         match self.files.get(name) {
             None => None,
@@ -63,14 +65,17 @@ impl Folder for MemoryFolder {
 
     ghost load_faults = { load_faults_of };
 
-    ghost store_faults = { λ _. 0 };
+    ghost store_faults = { store_faults_of };
 
     fn load(&mut self, alloc: Global, name: &str, limit: u64) -> Result<Vec<u8>, LoadErr>
-        ensures tells { LoadTells (Some (told_by self.old)) (Some (told_by self.new)) name.now limit result }
+        ensures tells { LoadTells (Some (told_by self.old)) (Some (told_by self.new))
+            name.now limit result }
         ensures cause { LoadCause (load_faults_of self.old) (load_faults_of self.new) result }
-        ensures stores { ◌≡◌ {A = ℕ} 0 0 }
-        ensures counted { IsErrOf result LoadErr.Failed → load_faults_of self.new ≡ next_count (load_faults_of self.old) }
-        ensures listed { IsErrOf result LoadErr.Failed ↔ Contains (failing_of self.old) (next_count (told_by self.old).calls) }
+        ensures stores { store_faults_of self.new ≡ store_faults_of self.old }
+        ensures counted { IsErrOf result LoadErr.Failed
+            → load_faults_of self.new ≡ next_count (load_faults_of self.old) }
+        ensures listed { IsErrOf result LoadErr.Failed
+            ↔ Contains (failing_of self.old) (next_count (told_by self.old).calls) }
         ensures failing { failing_of self.new ≡ failing_of self.old }
     {
         self.calls = self.calls.saturating_add(1);

@@ -45,10 +45,13 @@ impl Sink for MemorySink {
     ghost faults = { faults_of };
 
     fn write(&mut self, bytes: &[u8]) -> Result<usize, WriteErr>
-        ensures takes { TakesPrefix (Some (bytes_of self.old)) (Some (bytes_of self.new)) bytes.now result }
+        ensures takes { TakesPrefix (Some (bytes_of self.old)) (Some (bytes_of self.new))
+            bytes.now result }
         ensures cause { WriteCause (faults_of self.old) (faults_of self.new) result }
-        ensures counted { IsErrOf result WriteErr.Failed → faults_of self.new ≡ next_count (faults_of self.old) }
-        ensures listed { IsErrOf result WriteErr.Failed ↔ Contains (failing_of self.old) (next_count (calls_of self.old)) }
+        ensures counted { IsErrOf result WriteErr.Failed
+            → faults_of self.new ≡ next_count (faults_of self.old) }
+        ensures listed { IsErrOf result WriteErr.Failed
+            ↔ Contains (failing_of self.old) (next_count (calls_of self.old)) }
         ensures all { IfOk result (λ count. count ≡ length bytes.now) }
         ensures calls { calls_of self.new ≡ next_count (calls_of self.old) }
         ensures failing { failing_of self.new ≡ failing_of self.old }

@@ -31,7 +31,8 @@ fn is_word(field: &[u8], word: &[u8]) -> bool
 
 /// Goes on to the next line that is kept.
 fn next_kept<'a>(lines: &mut LineIter<'a>) -> Option<&'a [u8]>
-    ensures { MatchOption result (kept_of lines.old ≡ []) (λ line. kept_of lines.old ≡ fields_of line.now ∷ kept_of lines.new) }
+    ensures { MatchOption result (kept_of lines.old ≡ [])
+        (λ line. kept_of lines.old ≡ fields_of line.now ∷ kept_of lines.new) }
 {
     while let Some(line) = lines.next() {
         if is_kept(line.bytes) {
@@ -43,7 +44,8 @@ fn next_kept<'a>(lines: &mut LineIter<'a>) -> Option<&'a [u8]>
 
 /// The numbers of vertices and edges of a header `p cep n m`.
 fn read_header(line: &[u8]) -> Option<(u32, u32)>
-    ensures { MatchOption result ((n m : ℕ) → IsHeader (fields_of line.now) n m → ⊥) (λ h. IsHeader (fields_of line.now) h.0 h.1) }
+    ensures { MatchOption result ((n m : ℕ) → IsHeader (fields_of line.now) n m → ⊥)
+        (λ h. IsHeader (fields_of line.now) h.0 h.1) }
 {
     let mut rest = fields(line);
     let p = rest.next()?;
@@ -60,7 +62,8 @@ fn read_header(line: &[u8]) -> Option<(u32, u32)>
 
 /// The edge of a line, the smaller vertex first.
 fn read_edge(n: u32, line: &[u8]) -> Option<(Vertex, Vertex)>
-    ensures edge { MatchOption result ((e : ℕ × ℕ) → IsEdgeLine n (fields_of line.now) e → ⊥) (λ e. IsEdgeLine n (fields_of line.now) e) }
+    ensures edge { MatchOption result ((e : ℕ × ℕ) → IsEdgeLine n (fields_of line.now) e → ⊥)
+        (λ e. IsEdgeLine n (fields_of line.now) e) }
     ensures within { IfSome result (λ e. (e.0 < e.1) × (e.1 < n)) }
 {
     let mut rest = fields(line);
@@ -82,7 +85,8 @@ fn read_edges(alloc: Global, n: u32, m: u32, lines: &mut LineIter<'_>) -> Result
     requires { n ≤ 1000 }
     ensures n { IfOk result (λ graph. graph.n ≡ n) }
     ensures edges { IfOk result (λ graph. AreAllEdges n m (kept_of lines.old) graph.edges) }
-    ensures refused { IsErrOf result PaceError.Refused → (edges : List (ℕ × ℕ)) → AreAllEdges n m (kept_of lines.old) edges → ⊥ }
+    ensures refused { IsErrOf result PaceError.Refused
+        → (edges : List (ℕ × ℕ)) → AreAllEdges n m (kept_of lines.old) edges → ⊥ }
 {
     let mut graph = Graph::without_edges(alloc, n)?;
     while let Some(line) = next_kept(lines) {
@@ -105,7 +109,8 @@ fn read_edges(alloc: Global, n: u32, m: u32, lines: &mut LineIter<'_>) -> Result
 /// `Refused` comes where the bytes are no such text, or n is above 1,000.
 pub fn read_pace(alloc: Global, bytes: &[u8]) -> Result<Graph, PaceError>
     ensures graph { IfOk result (λ graph. IsAccepted bytes.now graph) }
-    ensures refused { IsErrOf result PaceError.Refused → (graph : PaceGraph) → IsAccepted bytes.now graph → ⊥ }
+    ensures refused { IsErrOf result PaceError.Refused
+        → (graph : PaceGraph) → IsAccepted bytes.now graph → ⊥ }
 {
     let mut rest = lines(bytes);
     let Some(header) = next_kept(&mut rest) else {

@@ -38,7 +38,8 @@ pub trait Names {
 
     /// The vertex that bytes name; `None` where they name none.
     fn find(&self, name: &[u8]) -> Option<Vertex>
-        ensures { MatchOption result ((v : ℕ) → is_named self.now name.now v → ⊥) (λ v. is_named self.now name.now v) };
+        ensures { MatchOption result ((v : ℕ) → is_named self.now name.now v → ⊥)
+            (λ v. is_named self.now name.now v) };
 
     /// The name of a vertex.
     fn name(&self, v: Vertex) -> Name<'_>
@@ -48,13 +49,15 @@ pub trait Names {
         ensures digits { HasDigits result };
 
     /// The same bytes name one vertex at most.
-    ghost one: { (s : Self) (name : List ℕ) (u v : ℕ) → is_named s name u → is_named s name v → u ≡ v };
+    ghost one: { (s : Self) (name : List ℕ) (u v : ℕ) → is_named s name u → is_named s name v
+        → u ≡ v };
 
     /// Only vertices have names.
     ghost within: { (s : Self) (name : List ℕ) (v : ℕ) → is_named s name v → v < length (names s) };
 
     /// The bytes of its name name each vertex.
-    ghost own: { (s : Self) (v : ℕ) (name : List ℕ) → length (names s) ≤ 1000 → slice_get (names s) v ≡ Some name → is_named s name v };
+    ghost own: { (s : Self) (v : ℕ) (name : List ℕ) → length (names s) ≤ 1000
+        → slice_get (names s) v ≡ Some name → is_named s name v };
 }
 
 #[cfg(test)]

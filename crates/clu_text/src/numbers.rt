@@ -10,7 +10,8 @@ use std::alloc::AllocError;
 /// something else or the value doesn't fit.
 #[tactic(auto, using(crate::proofs::Digits::value_more))]
 pub fn read_u32(field: &[u8]) -> Option<u32>
-    ensures { SomeIff result (IsNumeral 10 field.now × (digits_value 10 field.now < 2 ^ 32)) (digits_value 10 field.now) }
+    ensures { SomeIff result (IsNumeral 10 field.now × (digits_value 10 field.now < 2 ^ 32))
+        (digits_value 10 field.now) }
 {
     if field.is_empty() {
         return None;
