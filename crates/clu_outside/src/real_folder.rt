@@ -110,10 +110,17 @@ mod tests {
             ("long", long, LoadErr::TooLong),
             ("missing", 3, LoadErr::Missing),
         ] {
-            assert_eq!(rt; folder.load(alloc, name, limit).err(), Some(want), "of {name}");
+            assert_eq!(rt;
+                folder.load(alloc, name, limit).err(),
+                Some(want),
+                "of {name}"
+            );
         }
         assert_eq!(rt; folder.load_faults, 0);
-        assert_eq!(rt; folder.load(alloc, "folder", 3).err(), Some(LoadErr::Failed));
+        assert_eq!(rt;
+            folder.load(alloc, "folder", 3).err(),
+            Some(LoadErr::Failed)
+        );
         assert_eq!(rt; folder.load_faults, 1);
         Ok(())
     }

@@ -90,7 +90,11 @@ mod tests {
                 fails,
             });
             assert_eq!(rt; write_whole(&mut sink, b"abcde"), want, "at {room} {fails}");
-            assert_eq!(rt; sink.writer.taken.as_slice(), taken.as_bytes(), "at {room} {fails}");
+            assert_eq!(rt;
+                sink.writer.taken.as_slice(),
+                taken.as_bytes(),
+                "at {room} {fails}"
+            );
             assert_eq!(rt; sink.faults, faults, "at {room} {fails}");
         }
         Ok(())
