@@ -1,12 +1,12 @@
 -- The edges read so far, and the lines that are left.
-use Rattle.std.proofs.Common.{◌≡◌, ℕ, ◌-◌, ◌<◌, ◌&&◌, ◌||◌, Bool, true, false, List, [], ◌∷◌, ◌++◌, length, min, max, nat_eq, refl, sym, ◌∙◌, ap, subst, arith, append_assoc}
+use Rattle.std.proofs.Common.{◌≡◌, ℕ, ◌-◌, ◌<◌, ◌&&◌, ◌||◌, Bool, true, false, List, [], ◌∷◌, ◌++◌, min, max, nat_eq, refl, sym, ◌∙◌, ap, subst, arith, append_assoc}
 use Rattle.std.specs.Str.Parse.{digits_value}
 use Rattle.std.proofs.lemmas.Bool.{false≢true}
 use Rattle.std.proofs.lemmas.Bool.Decides.{nat_tests}
 use Rattle.std.proofs.lemmas.List.{append-nil}
 use Rattle.std.proofs.lemmas.List.Folds.{list_any-append}
 use Rattle.clu_pace.specs.Graph.{is_edge, are_adjacent}
-use Rattle.clu_pace.specs.Pace.{IsEdgeLine, AreEdges, AreAllEdges, NoneTwice}
+use Rattle.clu_pace.specs.Pace.{IsEdgeLine, AreEdges, NoneTwice}
 
 -- of the lines, those before `left` are the edges `done`
 pub record Reading (n : ℕ) (lines left : List (List (List ℕ))) (done : List (ℕ × ℕ)) : Type 0 where
