@@ -1,6 +1,6 @@
 -- The counts of the two kinds of edits, step by step.
-use Rattle.std.proofs.Common.{◌≡◌, ℕ, zero, suc, ◌+◌, ◌-◌, ◌<◌, ◌&&◌, Bool, not, List, [], ◌∷◌, ◌++◌, length, get_or, refl, sym, ◌∙◌, ap, arith, add-one}
-use Rattle.std.specs.Prelude.{count_by, sum_by, cond}
+use Rattle.std.proofs.Common.{◌≡◌, ℕ, zero, suc, ◌+◌, ◌-◌, ◌<◌, ◌&&◌, Bool, not, List, [], ◌∷◌, length, get_or, ◌∙◌, ap, arith}
+use Rattle.std.specs.Prelude.{count_by, cond}
 use Rattle.std.specs.List.{range_with_len}
 use Rattle.std.proofs.lemmas.List.Sums.{sum_by-append}
 use Rattle.clu_partition.specs.Partition.{share_block}

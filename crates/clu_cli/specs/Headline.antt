@@ -1,5 +1,5 @@
 -- What a run promises: the headline, and the cause of each status.
-use Rattle.std.specs.Prelude.{◌≡◌, ◌↔◌, ℕ, zero, suc, pos, ◌<◌, ◌≤◌, ◌≤ℤ◌, List, length, take, Option, String}
+use Rattle.std.specs.Prelude.{◌≡◌, ◌↔◌, ℕ, zero, suc, pos, ◌≤◌, ◌≤ℤ◌, List, length, Option, String}
 use Rattle.std.specs.Global.{Global}
 use Rattle.clu_outside.specs.Folder.{Told, one_call_later, Holds, HoldsMore, Lacks}
 use Rattle.clu_outside.specs.Sink.{TakesSome, with_bytes}
