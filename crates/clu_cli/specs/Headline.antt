@@ -13,12 +13,13 @@ use Rattle.clu_cli.specs.Neighbours.{BlocksAreAlike}
 use Rattle.clu_cli.specs.Report.{report}
 use Rattle.clu_cli.specs.Words.{IsSolve}
 
--- The bytes are a text of a graph. What is printed is the report of a partition whose blocks hold each vertex exactly
+-- The bytes are a text of a graph, and of no other. What is printed is the report of a partition whose blocks hold each vertex exactly
 -- once. It costs exactly the printed number of edits, and no partition costs fewer than the printed bound. The status
 -- is 0 exactly where the two are equal. Two vertices share a block exactly where their closed neighbourhoods are equal.
 pub record IsAnswer (bytes printed : List ℕ) (status : ℕ) : Type 0 where
   pub graph : PaceGraph
   pub accepted : IsAccepted bytes graph
+  pub only : (other : PaceGraph) → IsAccepted bytes other → other ≡ graph
   pub labels : List ℕ
   pub partition : IsPartition graph.n labels
   pub each_once : EachOnce graph.n (blocks_of labels)

@@ -26,6 +26,18 @@ same_edge n line e f x y =
     let vs : x.v ≡ y.v = sym x.v_is.0.value_is ∙ ap (digits_value 10) twos ∙ y.v_is.0.value_is in
     x.edge_is ∙ (λ i. (min (us i) (vs i) - 1, max (us i) (vs i) - 1)) ∙ sym y.edge_is
 
+-- lines are one list of edges at most
+pub same_edges : (n : ℕ) (lines : List (List (List ℕ))) (es fs : List (ℕ × ℕ)) → AreEdges n lines es → AreEdges n lines fs → es ≡ fs
+same_edges n [] [] [] these those = refl
+same_edges n [] [] (f ∷ fs) these those = absurd those
+same_edges n [] (e ∷ es) fs these those = absurd these
+same_edges n (line ∷ lines) [] fs these those = absurd these
+same_edges n (line ∷ lines) (e ∷ es) [] these those = absurd those
+same_edges n (line ∷ lines) (e ∷ es) (f ∷ fs) these those =
+    let first : e ≡ f = same_edge n line e f these.0 those.0 in
+    let rest : es ≡ fs = same_edges n lines es fs these.1 those.1 in
+    λ i. first i ∷ rest i
+
 or_parts : (x y : Bool) → (x || y) ≡ false → (x ≡ false) × (y ≡ false)
 or_parts true y e = absurd (false≢true (sym e))
 or_parts false y e = (refl, e)

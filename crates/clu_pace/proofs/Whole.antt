@@ -2,7 +2,8 @@
 use Rattle.std.proofs.Common.{◌≡◌, ℕ, ◌<◌, ◌≤◌, List, [], ◌∷◌, sym, ◌∙◌, ap, subst, arith}
 use Rattle.std.specs.Str.Parse.{digits_value}
 use Rattle.clu_pace.specs.Graph.{PaceGraph}
-use Rattle.clu_pace.specs.Pace.{IsAccepted, IsHeader, AreAllEdges, kept_lines}
+use Rattle.clu_pace.specs.Pace.{IsAccepted, IsHeader, AreAllEdges, AreEdges, kept_lines}
+use Rattle.clu_pace.proofs.Reading.{same_edges}
 
 -- a line is one header at most
 same_header : (line : List (List ℕ)) (n m k l : ℕ) → IsHeader line n m → IsHeader line k l → (n ≡ k) × (m ≡ l)
@@ -46,3 +47,16 @@ module _ (bytes : List ℕ) (header : List (List ℕ)) (lines : List (List (List
       };
       small = omega (arith, same, small);
     }
+
+-- the bytes are a text of one graph at most
+pub one_graph : (bytes : List ℕ) (graph other : PaceGraph) → IsAccepted bytes graph → IsAccepted bytes other → other ≡ graph
+one_graph bytes graph other this that =
+    let kept : that.text.header ∷ that.text.lines ≡ this.text.header ∷ this.text.lines = sym that.text.kept ∙ this.text.kept in
+    let header : that.text.header ≡ this.text.header = cc in
+    let lines : that.text.lines ≡ this.text.lines = cc in
+    let opens : IsHeader this.text.header other.n that.text.count = subst (λ (h : List (List ℕ)). IsHeader h other.n that.text.count) header that.text.header_is in
+    let numbers : other.n ≡ graph.n = (same_header this.text.header other.n that.text.count graph.n this.text.count opens this.text.header_is).0 in
+    let there : AreEdges other.n this.text.lines other.edges = subst (λ (ls : List (List (List ℕ))). AreEdges other.n ls other.edges) lines that.text.edges_are.each in
+    let each : AreEdges graph.n this.text.lines other.edges = subst (λ (n : ℕ). AreEdges n this.text.lines other.edges) numbers there in
+    let edges : other.edges ≡ graph.edges = same_edges graph.n this.text.lines other.edges graph.edges each this.text.edges_are.each in
+    λ i. record { n = numbers i; edges = edges i }

@@ -109,6 +109,8 @@ fn read_edges(alloc: Global, n: u32, m: u32, lines: &mut LineIter<'_>) -> Result
 /// `Refused` comes where the bytes are no such text, or n is above 1,000.
 pub fn read_pace(alloc: Global, bytes: &[u8]) -> Result<Graph, PaceError>
     ensures graph { IfOk result (λ graph. IsAccepted bytes.now graph) }
+    ensures only { IfOk result (λ graph. (other : PaceGraph) → IsAccepted bytes.now other
+        → other ≡ graph) }
     ensures refused { IsErrOf result PaceError.Refused
         → (graph : PaceGraph) → IsAccepted bytes.now graph → ⊥ }
 {

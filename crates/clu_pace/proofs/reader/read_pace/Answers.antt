@@ -1,7 +1,7 @@
 use Rattle.std.proofs.Common.{sym, ◌∙◌, ap, arith}
 use Rattle.clu_pace.specs.Pace.{kept_of}
 use Rattle.clu_pace.proofs.Kept.{kept_lines_are}
-use Rattle.clu_pace.proofs.Whole.{no_lines, no_header, too_many, no_edges, whole}
+use Rattle.clu_pace.proofs.Whole.{no_lines, no_header, too_many, no_edges, whole, one_graph}
 use Rattle.clu_pace.proofs.reader.read_pace.Goals as goal
 
 pub returns-in_default-clause-refused : goal.returns-in_default-clause-refused
@@ -22,3 +22,6 @@ returns-in_err-graph-clause-refused c = λ is.
 pub returns-clause-graph : goal.returns-clause-graph
 returns-clause-graph c =
     whole _ _ _ (sym (kept_lines_are c.args.bytes.now) ∙ ap kept_of (sym c.lines-rest.ensures) ∙ c.in-Some.ensures) _ _ c.in-Some-read_header.ensures _ c.in_ok-graph.ensures.n c.if-n-gt-MAX_VERTICES.false c.in_ok-graph.ensures.edges
+
+pub returns-clause-only : goal.returns-clause-only
+returns-clause-only c = λ other that. one_graph _ _ _ (returns-clause-graph c) that
