@@ -59,8 +59,8 @@ once_front [] e tail once = refl
 once_front (d ∷ done) e tail once =
     let rest : is_edge done e.0 e.1 ≡ false = once_front done e tail once.1 in
     let more : is_edge (done ++ e ∷ tail) d.0 d.1 ≡ (is_edge done d.0 d.1 || is_edge (e ∷ tail) d.0 d.1) = list_any-append (λ x. nat_eq x.0 d.0 && nat_eq x.1 d.1) done (e ∷ tail) in
-    let back : is_edge (e ∷ tail) d.0 d.1 ≡ false = (or_parts _ _ (sym more ∙ once.0)).1 in
-    let here : (nat_eq e.0 d.0 && nat_eq e.1 d.1) ≡ false = (or_parts _ _ back).0 in
+    let back : is_edge (e ∷ tail) d.0 d.1 ≡ false = (or_parts (is_edge done d.0 d.1) (is_edge (e ∷ tail) d.0 d.1) (sym more ∙ once.0)).1 in
+    let here : (nat_eq e.0 d.0 && nat_eq e.1 d.1) ≡ false = (or_parts (nat_eq e.0 d.0 && nat_eq e.1 d.1) (is_edge tail d.0 d.1) back).0 in
     grind (arith, nat_tests)
 
 module _ (n : ℕ) (lines left : List (List (List ℕ))) (line : List (List ℕ)) (done : List (ℕ × ℕ)) (old : Reading n lines (line ∷ left) done) where
