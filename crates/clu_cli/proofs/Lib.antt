@@ -1,4 +1,5 @@
 pub mod Causes
 pub mod Counting
-pub mod FirstAlike
+pub mod FirstTwin
 pub mod Printing
+pub mod Prints

@@ -17,5 +17,6 @@ abbrev pub missing_edges : PaceGraph → List ℕ → ℕ
 missing_edges graph labels =
     count_pairs (λ u v. share_block labels u v && not (are_adjacent graph.edges u v)) (below graph.n)
 
+-- both kinds: the cost of a partition
 abbrev pub edits : PaceGraph → List ℕ → ℕ
 edits graph labels = cut_edges graph labels + missing_edges graph labels

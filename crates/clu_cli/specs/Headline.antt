@@ -8,14 +8,14 @@ use Rattle.clu_pace.specs.Graph.{PaceGraph}
 use Rattle.clu_pace.specs.Numbers.{graph_names}
 use Rattle.clu_pace.specs.Pace.{IsAccepted}
 use Rattle.clu_cli.specs.declared.report.Facts.{Facts}
+use Rattle.clu_cli.specs.CriticalCliques.{AreCriticalCliques}
 use Rattle.clu_cli.specs.Edits.{edits}
-use Rattle.clu_cli.specs.Neighbours.{BlocksAreAlike}
 use Rattle.clu_cli.specs.Report.{report}
 use Rattle.clu_cli.specs.Words.{IsSolve}
 
--- The bytes are a text of a graph, and of no other. What is printed is the report of a partition whose blocks hold each vertex exactly
--- once. It costs exactly the printed number of edits, and no partition costs fewer than the printed bound. The status
--- is 0 exactly where the two are equal. Two vertices share a block exactly where their closed neighbourhoods are equal.
+-- What is printed for the bytes of a file. They are a text of one graph alone. The report is that of a partition whose
+-- blocks hold each vertex exactly once, and are the critical cliques. The printed value is exactly its number of edits.
+-- No partition has fewer edits than the printed bound, which is still 0. The status is 0 exactly where the two are equal.
 pub record IsAnswer (bytes printed : List ℕ) (status : ℕ) : Type 0 where
   pub graph : PaceGraph
   pub accepted : IsAccepted bytes graph
@@ -23,11 +23,12 @@ pub record IsAnswer (bytes printed : List ℕ) (status : ℕ) : Type 0 where
   pub labels : List ℕ
   pub partition : IsPartition graph.n labels
   pub each_once : EachOnce graph.n (blocks_of labels)
-  pub alike : BlocksAreAlike graph labels
+  pub cliques : AreCriticalCliques graph labels
   pub facts : Facts
   pub vertices : facts.vertices ≡ graph.n
   pub value : facts.value ≡ pos (edits graph labels)
   pub none_better : (others : List ℕ) → IsPartition graph.n others → facts.bound ≤ℤ pos (edits graph others)
+  pub bound : facts.bound ≡ pos 0
   pub text : printed ≡ report facts (graph_names graph) labels
   pub optimal : (status ≡ 0) ↔ (facts.value ≡ facts.bound)
 
@@ -43,7 +44,7 @@ pub record IsLoaded (words : List (String Global)) (told : Option Told) (bytes :
   pub small : length bytes ≤ max_bytes
 
 -- status 0 or 1: the sink, where it tells, has taken the answer to the file that the words name, and nothing else
-pub record Answers (words : List (String Global)) (told : Option Told) (old new : Option (List ℕ)) (status : ℕ) : Type 0 where
+pub record PrintsAnswer (words : List (String Global)) (told : Option Told) (old new : Option (List ℕ)) (status : ℕ) : Type 0 where
   pub bytes : List ℕ
   pub loaded : IsLoaded words told bytes
   pub printed : List ℕ

@@ -1,6 +1,7 @@
+pub mod CriticalCliques
 pub mod Edits
+pub mod Fingerprints
 pub mod Headline
-pub mod Neighbours
 pub mod Report
 pub mod Status
 pub mod Words

@@ -15,6 +15,7 @@ line text = text ++ line_feed ∷ []
 abbrev pub optimal : Facts → Bool
 optimal facts = int_eq facts.value facts.bound
 
+-- the words of the verdict
 unfoldable pub verdict : Facts → List ℕ
 verdict facts = if optimal facts then codes "optimal" else codes "gap branchings"
 

@@ -3,16 +3,18 @@ ghost use Rattle.clu_pace.specs.Graph.{PaceGraph};
 ghost use Rattle.clu_pace.specs.Pace.{IsAccepted};
 ghost use Rattle.clu_cli.specs.Headline.{IsAnswer};
 
+use crate::cliques::critical_cliques;
 use crate::edits::count_edits;
-use crate::neighbours::alike_blocks;
 use crate::report::{Facts, report_text};
 use clu_pace::{PaceError, read_pace};
 use std::alloc::Global;
 
-/// What a solved graph leaves to be written: the report, and whether its value is its bound.
-#[derive(Drop)]
+/// What a solved graph leaves to be written.
+#[derive(Debug, Drop)]
 pub struct Answer {
+    /// The report.
     pub text: Vec<u8>,
+    /// Whether its value is its bound.
     pub optimal: bool,
 }
 
@@ -24,7 +26,7 @@ pub fn answer_of(alloc: Global, bytes: &[u8]) -> Result<Answer, PaceError>
         → (graph : PaceGraph) → IsAccepted bytes.now graph → ⊥ }
 {
     let graph = read_pace(alloc, bytes)?;
-    let partition = alike_blocks(alloc, &graph)?;
+    let partition = critical_cliques(alloc, &graph)?;
     let value = count_edits(&graph, &partition);
     let facts = Facts {
         vertices: graph.n(),

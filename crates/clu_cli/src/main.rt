@@ -6,15 +6,15 @@
 #![tactic(auto)]
 
 mod answer;
+mod cliques;
 mod edits;
-mod neighbours;
 mod report;
 mod run;
 mod stop;
 mod words;
 
 use crate::run::run;
-use crate::stop::{Stop, line_of, status_of};
+use crate::stop::Stop;
 use clu_outside::{RealFolder, RealSink, write_whole};
 use std::io::ErrorKind;
 use std::process::ExitCode;
@@ -38,8 +38,8 @@ fn main(rt: HostRuntime) -> ExitCode {
                 ErrorKind::OutOfMemory => Stop::Memory,
                 _ => Stop::Words,
             };
-            let _ = write_whole(&mut err, line_of(stop).as_bytes());
-            return ExitCode::from(status_of(stop));
+            let _ = write_whole(&mut err, stop.line().as_bytes());
+            return ExitCode::from(stop.status());
         }
     };
     let mut folder = RealFolder::new(&rt);

@@ -7,12 +7,14 @@ use clu_partition::{Names, Partition, Vertex};
 use clu_text::push_number;
 use std::alloc::{AllocError, Global};
 
-/// What a report says beside the blocks: the number of vertices, the number of edits of the
-/// blocks, and a number that no partition's edits are below.
+/// What a report says beside the blocks.
 #[derive(Clone, Copy, Debug, PartialEq, Eq)]
 pub struct Facts {
+    /// The number of vertices.
     pub vertices: u32,
+    /// The number of edits of the blocks.
     pub value: i128,
+    /// No partition has fewer edits.
     pub bound: i128,
 }
 

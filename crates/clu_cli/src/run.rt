@@ -1,11 +1,11 @@
 ghost use Rattle.std.specs.Prelude.{◌≡◌, ◌≢◌, ◌↔◌, ◌≤◌, ◌⊎◌, ℕ, List, IsTrue};
 ghost use Rattle.clu_outside.specs.Counts.{Rose};
-ghost use Rattle.clu_cli.specs.Headline.{Answers, IsRefused, IsAbsent, IsTooLong, IsCutShort, KeepsFiles};
+ghost use Rattle.clu_cli.specs.Headline.{PrintsAnswer, IsRefused, IsAbsent, IsTooLong, IsCutShort, KeepsFiles};
 ghost use Rattle.clu_cli.specs.Status.{end_status, is_status, WritesLine};
 ghost use Rattle.clu_cli.specs.Words.{IsSolve};
 
 use crate::answer::answer_of;
-use crate::stop::{Stop, line_of, status_of};
+use crate::stop::Stop;
 use crate::words::read_words;
 use clu_outside::{Folder, LoadErr, Sink, WriteErr, write_whole};
 use clu_pace::PaceError;
@@ -23,7 +23,7 @@ fn work<F: Folder, O: Sink>(
     out: &mut O,
 ) -> Result<bool, Stop>
     ensures answers { end_status result ≤ 1
-        → Answers words.now (F.told folder.old) (O.written out.old) (O.written out.new)
+        → PrintsAnswer words.now (F.told folder.old) (O.written out.old) (O.written out.new)
         (end_status result) }
     ensures refused { end_status result ≡ 4 → IsRefused words.now (F.told folder.old) }
     ensures words { (end_status result ≡ 6) ↔ ((file : List ℕ) → IsSolve words.now file → ⊥) }
@@ -80,8 +80,8 @@ fn finish<E: Sink>(err: &mut E, end: Result<bool, Stop>) -> u8
         Ok(true) => 0,
         Ok(false) => 1,
         Err(stop) => {
-            let _ = write_whole(err, line_of(stop).as_bytes());
-            status_of(stop)
+            let _ = write_whole(err, stop.line().as_bytes());
+            stop.status()
         }
     }
 }
@@ -98,7 +98,7 @@ pub fn run<F: Folder, O: Sink, E: Sink>(
 ) -> u8
     // The printed blocks, their edits, the bound and the verdict are those of the file.
     ensures answers { result ≤ 1
-        → Answers words.now (F.told folder.old) (O.written out.old) (O.written out.new) result }
+        → PrintsAnswer words.now (F.told folder.old) (O.written out.old) (O.written out.new) result }
 
     // Each other status has its cause.
     ensures refused { result ≡ 4 → IsRefused words.now (F.told folder.old) }

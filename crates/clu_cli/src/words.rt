@@ -2,8 +2,9 @@ ghost use Rattle.std.specs.Prelude.{◌≡◌, ◌↔◌, ℕ, List, IsTrue, Mat
 ghost use Rattle.clu_cli.specs.Words.{IsSolve, dash};
 
 /// The words of `solve`.
-#[derive(Clone, Copy)]
+#[derive(Clone, Copy, Debug)]
 pub struct Solve<'a> {
+    /// The name of the graph file.
     pub file: &'a str,
 }
 

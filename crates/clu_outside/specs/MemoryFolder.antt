@@ -6,9 +6,11 @@ use Rattle.std.specs.BTreeMap.{BTreeMap, get_by_text}
 use Rattle.clu_outside.specs.Folder.{Told}
 use Rattle.clu_outside.specs.declared.memory_folder.MemoryFolder.{MemoryFolder}
 
+-- the bytes under each name
 abbrev pub content : BTreeMap (String Global) (Vec ℕ) → List ℕ → Option (List ℕ)
 content files name = option_map (λ bytes. bytes.items) (get_by_text files name)
 
+-- the content and the number of calls
 abbrev pub told_by : MemoryFolder → Told
 told_by folder = record { held = content folder.files; calls = folder.calls }
 

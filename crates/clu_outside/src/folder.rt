@@ -4,13 +4,16 @@ ghost use Rattle.clu_outside.specs.Folder.{Told, LoadTells, LoadCause};
 
 use std::alloc::{AllocError, Global};
 
-/// Why a load gave no bytes: a fault of the folder, no file of that name, a file longer than the
-/// limit, or want of memory.
+/// Why a load gave no bytes.
 #[derive(Clone, Copy, Debug, PartialEq, Eq)]
 pub enum LoadErr {
+    /// The folder met a fault.
     Failed,
+    /// There is no file of that name.
     Missing,
+    /// The file is longer than the limit.
     TooLong,
+    /// Want of memory.
     Memory,
 }
 

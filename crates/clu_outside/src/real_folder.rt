@@ -69,6 +69,7 @@ impl<'a, R: Files> Folder for RealFolder<'a, R> {
         };
         let mut bytes: Vec<u8> = Vec::new(alloc);
         let mut piece = [0u8; PIECE];
+        // Nothing says that a file ends, so the reads are counted.
         for _ in 0..u64::MAX {
             let count = match file.read(&mut piece) {
                 Ok(count) => count,

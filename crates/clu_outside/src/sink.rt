@@ -4,10 +4,12 @@ ghost use Rattle.clu_outside.specs.Sink.{TakesPrefix, TakesWhole, WriteCause};
 
 use std::alloc::AllocError;
 
-/// Why bytes were not taken: a fault of the sink, or want of memory.
+/// Why bytes were not taken.
 #[derive(Clone, Copy, Debug, PartialEq, Eq)]
 pub enum WriteErr {
+    /// The sink met a fault.
     Failed,
+    /// Want of memory.
     Memory,
 }
 

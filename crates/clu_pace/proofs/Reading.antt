@@ -20,10 +20,10 @@ start n lines = record { back = λ tail h. h; onward = λ edges h. (edges, refl,
 -- a line is one edge at most
 pub same_edge : (n : ℕ) (line : List (List ℕ)) (e f : ℕ × ℕ) → IsEdgeLine n line e → IsEdgeLine n line f → e ≡ f
 same_edge n line e f x y =
-    let ones : x.one ≡ y.one = cc (x.words, y.words) in
-    let twos : x.two ≡ y.two = cc (x.words, y.words) in
-    let us : x.u ≡ y.u = sym x.u_is.0.value_is ∙ ap (digits_value 10) ones ∙ y.u_is.0.value_is in
-    let vs : x.v ≡ y.v = sym x.v_is.0.value_is ∙ ap (digits_value 10) twos ∙ y.v_is.0.value_is in
+    let ones : x.u_field ≡ y.u_field = cc (x.words, y.words) in
+    let twos : x.v_field ≡ y.v_field = cc (x.words, y.words) in
+    let us : x.u ≡ y.u = sym x.u_is.number.value_is ∙ ap (digits_value 10) ones ∙ y.u_is.number.value_is in
+    let vs : x.v ≡ y.v = sym x.v_is.number.value_is ∙ ap (digits_value 10) twos ∙ y.v_is.number.value_is in
     x.edge_is ∙ (λ i. (min (us i) (vs i) - 1, max (us i) (vs i) - 1)) ∙ sym y.edge_is
 
 -- lines are one list of edges at most

@@ -1,4 +1,5 @@
--- Each vertex is named by its number, and no other.
+-- Each vertex is named by its number, and no other: the laws of `Names` for graphs. They stand here since an `impl`
+-- can import the proofs of its laws from nowhere else.
 use Rattle.std.specs.Prelude.{◌≡◌, ℕ, ◌+◌, ◌<◌, ◌≤◌, Option, Some, List, length, slice_get}
 use Rattle.std.specs.Fmt.{decimal}
 use Rattle.std.specs.Option.{option_map}
@@ -12,7 +13,8 @@ use Rattle.clu_partition.specs.Partition.{below}
 use Rattle.clu_pace.specs.Graph.{PaceGraph}
 use Rattle.clu_pace.specs.Numbers.{graph_names, IsNamed}
 
-pub one_name : (graph : PaceGraph) (name : List ℕ) (u v : ℕ) → IsNamed graph name u → IsNamed graph name v → u ≡ v
+pub one_name : (graph : PaceGraph) (name : List ℕ) (u v : ℕ)
+    → IsNamed graph name u → IsNamed graph name v → u ≡ v
 one_name graph name u v is_u is_v = let e : u + 1 ≡ v + 1 = sym is_u.1.value_is ∙ is_v.1.value_is in omega arith
 
 pub names_count : (graph : PaceGraph) → length (graph_names graph) ≡ graph.n
@@ -27,7 +29,8 @@ name_at graph v at =
     ∙ ap (λ (o : Option ℕ). option_map (λ v. decimal (v + 1)) o) (slice_get-get_or (below graph.n) v 0 (omega (arith, length-range_with_len 0 graph.n)))
     ∙ ap (λ (k : ℕ). Some (decimal (k + 1))) (get_or-range_with_len 0 graph.n v 0 at ∙ omega arith)
 
-pub own_name : (graph : PaceGraph) (v : ℕ) (name : List ℕ) → length (graph_names graph) ≤ 1000 → slice_get (graph_names graph) v ≡ Some name → IsNamed graph name v
+pub own_name : (graph : PaceGraph) (v : ℕ) (name : List ℕ) → length (graph_names graph) ≤ 1000
+    → slice_get (graph_names graph) v ≡ Some name → IsNamed graph name v
 own_name graph v name small is =
     let at : v < graph.n = omega (arith, slice_get_within (graph_names graph) v name is, names_count graph) in
     let text : decimal (v + 1) ≡ name = cc (name_at graph v at, is) in

@@ -2,7 +2,7 @@
 -- `p cep n m` and then m edges.
 use Rattle.std.specs.Prelude.{◌≡◌, ◌≢◌, ◌==◌, ℕ, ◌-◌, ◌<◌, ◌≤◌, ◌^◌, Bool, false, List, [], ◌∷◌, codes, filter, length, map, max, min, not, slice_index}
 use Rattle.clu_text.specs.Lines.{lines_of, fields_of}
-use Rattle.clu_text.specs.Numbers.{IsNumber}
+use Rattle.clu_text.specs.Numbers.{IsU32}
 use Rattle.clu_pace.specs.Graph.{PaceGraph, is_edge}
 
 -- what a comment begins with: 'c'
@@ -22,27 +22,23 @@ kept_lines bytes = filter is_kept (map fields_of (lines_of bytes))
 abbrev pub kept_of : List (ℕ × List ℕ) → List (List (List ℕ))
 kept_of lines = filter is_kept (map (λ line. fields_of line.1) lines)
 
--- a field is a number that fits 32 bits
-abbrev pub IsU32 : List ℕ → ℕ → Type 0
-IsU32 field value = IsNumber field value × (value < 2 ^ 32)
-
 -- the header `p cep n m`
 pub record IsHeader (line : List (List ℕ)) (n m : ℕ) : Type 0 where
-  pub vertices : List ℕ
-  pub edges : List ℕ
-  pub words : line ≡ codes "p" ∷ codes "cep" ∷ vertices ∷ edges ∷ []
-  pub vertices_is : IsU32 vertices n
-  pub edges_is : IsU32 edges m
+  pub n_field : List ℕ
+  pub m_field : List ℕ
+  pub words : line ≡ codes "p" ∷ codes "cep" ∷ n_field ∷ m_field ∷ []
+  pub n_is : IsU32 n_field n
+  pub m_is : IsU32 m_field m
 
 -- a line of two different numbers from 1 to n, which stand for a pair of vertices, the smaller first
 pub record IsEdgeLine (n : ℕ) (line : List (List ℕ)) (edge : ℕ × ℕ) : Type 0 where
-  pub one : List ℕ
-  pub two : List ℕ
   pub u : ℕ
   pub v : ℕ
-  pub words : line ≡ one ∷ two ∷ []
-  pub u_is : IsU32 one u
-  pub v_is : IsU32 two v
+  pub u_field : List ℕ
+  pub v_field : List ℕ
+  pub words : line ≡ u_field ∷ v_field ∷ []
+  pub u_is : IsU32 u_field u
+  pub v_is : IsU32 v_field v
   pub u_in : (0 < u) × (u ≤ n)
   pub v_in : (0 < v) × (v ≤ n)
   pub differ : u ≢ v
@@ -71,10 +67,10 @@ pub record AreAllEdges (n m : ℕ) (lines : List (List (List ℕ))) (edges : Lis
 pub record IsPace (bytes : List ℕ) (graph : PaceGraph) : Type 0 where
   pub header : List (List ℕ)
   pub lines : List (List (List ℕ))
-  pub count : ℕ
+  pub m : ℕ
   pub kept : kept_lines bytes ≡ header ∷ lines
-  pub header_is : IsHeader header graph.n count
-  pub edges_are : AreAllEdges graph.n count lines graph.edges
+  pub header_is : IsHeader header graph.n m
+  pub edges_are : AreAllEdges graph.n m lines graph.edges
 
 -- the bytes are a text of the graph, and it has at most 1,000 vertices
 pub record IsAccepted (bytes : List ℕ) (graph : PaceGraph) : Type 0 where

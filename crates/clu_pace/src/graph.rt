@@ -8,7 +8,7 @@ use std::marker::Model;
 
 /// A graph of at most 1,000 vertices: its edges in the order of the file, each with its smaller
 /// vertex first, and a table that finds them.
-#[derive(Drop)]
+#[derive(Debug, Drop)]
 pub struct Graph {
     n: u32,
     edges: Vec<(Vertex, Vertex)>,

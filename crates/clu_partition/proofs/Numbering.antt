@@ -62,7 +62,7 @@ module _ (labels firsts new numbered : List ℕ) (i place : ℕ) (old : Numberin
 
 module _ (labels firsts numbered : List ℕ) (all : Numbering labels (length labels) firsts numbered) where
   pub is_partition : IsPartition (length labels) numbered
-  is_partition = record { each = all.count; numbered = all.numbered_is }
+  is_partition = record { one_each = all.count; numbered = all.numbered_is }
 
   one_place : (a b : ℕ) → a < length firsts → b < length firsts → get_or firsts a 0 ≡ get_or firsts b 0 → a ≡ b
   one_place a b la lb e = elim (cases_order a b) [

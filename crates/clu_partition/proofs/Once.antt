@@ -1,7 +1,9 @@
 -- Each vertex stands in the blocks of a partition exactly once.
 use Rattle.std.proofs.Common.{◌≡◌, ℕ, zero, suc, ◌+◌, ◌<◌, ◌≤◌, Bool, true, false, cond, List, [], ◌∷◌, ◌++◌, length, get_or, filter, map, nat_eq, refl, sym, ◌∙◌, ap, inl, inr, arith}
 use Rattle.std.specs.Prelude.{count_by}
-use Rattle.std.specs.List.{concat, range_with_len}
+use Rattle.std.specs.List.{All, concat, range_with_len}
+use Rattle.std.proofs.lemmas.List.Elements.{All-append, All-filter, All-from_get_or}
+use Rattle.std.proofs.lemmas.List.FromFn.{length-range_with_len, get_or-range_with_len}
 use Rattle.std.proofs.lemmas.Bool.{cases_eq, eq-eqb, ne_eqb}
 use Rattle.std.proofs.lemmas.List.Sums.{sum_by-append, sum_by-cons}
 use Rattle.clu_partition.specs.Partition.{block_count_of, block_of, blocks_of, EachOnce}
@@ -84,9 +86,23 @@ in_blocks labels v a (suc n) at =
       | inr differ ↦ ap (λ (b : Bool). cond b 1 0) (ne_eqb _ _ (λ e. differ (sym e)) ∙ sym (ne_eqb _ _ differ))
     ]
 
+below_within : (n : ℕ) → All (λ v. v < n) (range_with_len 0 n)
+below_within n = All-from_get_or (λ v. v < n) (range_with_len 0 n) 0 (λ i h.
+    let at : i < n = omega (arith, length-range_with_len 0 n) in
+    omega (arith, get_or-range_with_len 0 n i 0 at))
+
+in_block_within : (labels : List ℕ) (b : ℕ) → All (λ v. v < length labels) (block_of labels b)
+in_block_within labels b = All-filter (λ u. nat_eq (get_or labels u 0) b) (λ v. v < length labels) (range_with_len 0 (length labels)) (below_within (length labels))
+
+in_blocks_within : (labels : List ℕ) (a n : ℕ) → All (λ v. v < length labels) (concat (map (block_of labels) (range_with_len a n)))
+in_blocks_within labels a zero = λ k d h. absurd (omega arith)
+in_blocks_within labels a (suc n) =
+    All-append (λ v. v < length labels) (block_of labels a) (concat (map (block_of labels) (range_with_len (a + 1) n))) (in_block_within labels a) (in_blocks_within labels (a + 1) n)
+
 pub each_once : (labels : List ℕ) → EachOnce (length labels) (blocks_of labels)
 each_once labels = record {
   once = λ v at.
       in_blocks labels v 0 (block_count_of labels) at
       ∙ once_in_range (get_or labels v 0) 0 (block_count_of labels) (omega arith) (omega (arith, label_below labels v at));
+  only = in_blocks_within labels 0 (block_count_of labels);
 }

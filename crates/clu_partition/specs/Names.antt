@@ -4,6 +4,7 @@ use Rattle.std.specs.Str.Parse.{AllDigits}
 use Rattle.clu_partition.specs.declared.names.Name.{Name}
 use Rattle.clu_partition.specs.declared.names.Name.TheVariants.{Number, Text}
 
+-- the first digits, or the text
 abbrev pub name_bytes : Name → List ℕ
 name_bytes (Number digits len) = take len digits
 name_bytes (Text text) = text.now

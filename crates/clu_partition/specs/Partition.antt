@@ -1,6 +1,6 @@
 -- Partitions as lists of labels: vertex v has the label that stands at place v.
 use Rattle.std.specs.Prelude.{◌≡◌, ◌↔◌, ℕ, ◌+◌, ◌<◌, ◌≤◌, Bool, List, [], ◌∷◌, count_by, filter, length, map, max, nat_eq, slice_index}
-use Rattle.std.specs.List.{concat, range_with_len}
+use Rattle.std.specs.List.{All, concat, range_with_len}
 
 -- the numbers 0 to n - 1
 abbrev pub below : ℕ → List ℕ
@@ -13,7 +13,7 @@ IsNumberedFrom next (label ∷ labels) = (label ≤ next) × IsNumberedFrom (max
 
 -- a partition of n vertices: a label for each, numbered from 0 by first appearance
 pub record IsPartition (n : ℕ) (labels : List ℕ) : Type 0 where
-  pub each : length labels ≡ n
+  pub one_each : length labels ≡ n
   pub numbered : IsNumberedFrom 0 labels
 
 -- two vertices share a block where their labels are equal
@@ -45,6 +45,7 @@ pub record IsCounted (labels : List ℕ) (count : ℕ) : Type 0 where
   pub numbered : IsNumberedFrom 0 labels
   pub count_is : count ≡ block_count_of labels
 
--- each of the vertices 0 to n - 1 stands in the blocks exactly once
+-- each of the vertices 0 to n - 1 stands in the blocks exactly once, and nothing else does
 pub record EachOnce (n : ℕ) (blocks : List (List ℕ)) : Type 0 where
   pub once : (v : ℕ) → v < n → count_by (λ u. nat_eq u v) (concat blocks) ≡ 1
+  pub only : All (λ v. v < n) (concat blocks)

@@ -4,9 +4,11 @@ ghost use Rattle.clu_partition.specs.Names.{name_bytes, IsWithin, HasDigits};
 use crate::Vertex;
 
 /// A vertex's name: decimal digits at the front of an array, or a text.
-#[derive(Clone, Copy)]
+#[derive(Clone, Copy, Debug)]
 pub enum Name<'a> {
+    /// A number: the first `len` of the digits.
     Number { digits: [u8; 10], len: u8 },
+    /// A text as it stands in the file.
     Text(&'a str),
 }
 

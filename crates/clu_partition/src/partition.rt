@@ -7,7 +7,7 @@ use std::alloc::{AllocError, Global};
 use std::marker::Model;
 
 /// A block of a partition: its vertices, rising.
-#[derive(Drop)]
+#[derive(Debug, Drop)]
 pub struct Block {
     vertices: Vec<Vertex>,
 }
@@ -46,7 +46,7 @@ impl Block {
 
 /// A partition of vertices into blocks, which contracts see as the list of the vertices' labels,
 /// numbered from 0 by first appearance.
-#[derive(Drop)]
+#[derive(Debug, Drop)]
 pub struct Partition {
     labels: Vec<u32>,
     count: u32,

@@ -6,10 +6,12 @@ ghost use Rattle.clu_text.specs.Lines.{is_blank as blank, is_line_feed, without_
 use memchr::memchr;
 use std::marker::Model;
 
-/// A line without its end, and its number from 1.
-#[derive(Clone, Copy)]
+/// A line of a text.
+#[derive(Clone, Copy, Debug)]
 pub struct Line<'a> {
+    /// The number, from 1.
     pub number: u64,
+    /// The bytes before the line's end.
     pub bytes: &'a [u8],
 }
 

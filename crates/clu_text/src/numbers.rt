@@ -1,7 +1,6 @@
-ghost use Rattle.std.specs.Prelude.{◌≡◌, ◌<◌, ◌^◌, ◌++◌, OnOk, OnErr};
-ghost use Rattle.std.specs.Option.{SomeIff};
+ghost use Rattle.std.specs.Prelude.{◌≡◌, ◌++◌, ℕ, MatchOption, OnOk, OnErr};
 ghost use Rattle.std.specs.Fmt.{signed_decimal};
-ghost use Rattle.std.specs.Str.Parse.{IsNumeral, digits_value};
+ghost use Rattle.clu_text.specs.Numbers.{IsU32};
 
 use itoa::Buffer;
 use std::alloc::AllocError;
@@ -10,8 +9,8 @@ use std::alloc::AllocError;
 /// something else or the value doesn't fit.
 #[tactic(auto, using(crate::proofs::Digits::value_more))]
 pub fn read_u32(field: &[u8]) -> Option<u32>
-    ensures { SomeIff result (IsNumeral 10 field.now × (digits_value 10 field.now < 2 ^ 32))
-        (digits_value 10 field.now) }
+    ensures { MatchOption result ((value : ℕ) → IsU32 field.now value → ⊥)
+        (λ value. IsU32 field.now value) }
 {
     if field.is_empty() {
         return None;

@@ -8,7 +8,7 @@ const PATH: &str = "p cep 3 2\n1 2\n2 3\n";
 const REPORT: &str =
     "objective edits\nvertices 3\nvalue 2\nbound 0\nscale 1\nverdict gap branchings\nbranchings 0\nblocks 3\nblock 1\nblock 2\nblock 3\n";
 
-/// A run over the files `path` and `loop`: its words, the numbers of the calls of the folder, of
+/// A run over the files `path`, `alone` and `loop`: its words, the numbers of the calls of the folder, of
 /// out and of err that are to fail, and what must come of it.
 struct Case {
     words: [&'static str; 2],
@@ -18,7 +18,17 @@ struct Case {
     err: &'static str,
 }
 
-const CASES: [Case; 8] = [
+const ALONE: &str =
+    "objective edits\nvertices 1\nvalue 0\nbound 0\nscale 1\nverdict optimal\nbranchings 0\nblocks 1\nblock 1\n";
+
+const CASES: [Case; 9] = [
+    Case {
+        words: ["solve", "alone"],
+        failing: [&[], &[], &[]],
+        status: 0,
+        out: ALONE,
+        err: "",
+    },
     Case {
         words: ["solve", "path"],
         failing: [&[], &[], &[]],
@@ -90,13 +100,15 @@ fn check(rt: &impl Abort, alloc: Global, case: &Case) -> Result<(), Fail> {
     let [loads, writes, lines] = case.failing;
     let mut folder = MemoryFolder::new(alloc, loads.to_vec(alloc)?);
     folder.put("path", PATH.as_bytes())?;
+    folder.put("alone", b"p cep 1 0\n")?;
     folder.put("loop", b"p cep 3 1\n2 2\n")?;
     let mut out = MemorySink::new(alloc, writes.to_vec(alloc)?);
     let mut err = MemorySink::new(alloc, lines.to_vec(alloc)?);
     let status = run(alloc, &words, &mut folder, &mut out, &mut err);
-    assert_eq!(rt; status, case.status);
-    assert!(rt; out.bytes() == case.out.as_bytes());
-    assert!(rt; err.bytes() == case.err.as_bytes());
+    let file = case.words[1];
+    assert_eq!(rt; status, case.status, "of {file}");
+    assert!(rt; out.bytes() == case.out.as_bytes(), "of {file}");
+    assert!(rt; err.bytes() == case.err.as_bytes(), "of {file}");
     Ok(())
 }
 

@@ -1,4 +1,4 @@
-use Rattle.std.proofs.Common.{rules, ◌≡◌, ◌*◌, ◌+◌, arith, take, get_or, sym, ap, ◌∙◌}
+use Rattle.std.proofs.Common.{◌≡◌, ◌*◌, ◌+◌, arith, take, get_or, sym, ap, ◌∙◌}
 use Rattle.std.specs.Char.{digit_value}
 use Rattle.std.specs.Str.Parse.{digits_value}
 use Rattle.std.proofs.lemmas.Int.Digits.{digits_more, digits_value_more}
@@ -9,7 +9,8 @@ use Rattle.clu_text.proofs.Digits.{not_digit, is_digit}
 use Rattle.clu_text.proofs.numbers.read_u32.Goals as goal
 
 pub returns-then-not-is_ascii_digit : goal.returns-then-not-is_ascii_digit
-returns-then-not-is_ascii_digit c = search (rules, not_digit, digit_at)
+returns-then-not-is_ascii_digit c = λ value is.
+    not_digit _ (sym c.is_ascii_digit.ensures.value ∙ c.if-not-is_ascii_digit.true) (digit_at c.args.field.now c.loop-byte.byte-index is.number.digits.1 c.loop-byte-test.true)
 
 pub loop-byte-preserved : goal.loop-byte-preserved
 loop-byte-preserved c =
@@ -26,4 +27,7 @@ pub returns : goal.returns
 returns c =
     let all : take c.loop-byte.byte-index c.args.field.now ≡ c.args.field.now = take_all _ _ c.loop-byte-test.false in
     let is : c.loop-byte.value ≡ digits_value 10 c.args.field.now = c.loop-byte.invariant.sum ∙ ap (digits_value 10) all in
-    (((grind arith, rw all at c.loop-byte.invariant.digits), omega (arith, is, c.loop-byte.invariant.small)), is)
+    record {
+      number = record { digits = (grind arith, rw all at c.loop-byte.invariant.digits); value_is = sym is };
+      fits = c.loop-byte.invariant.small;
+    }
