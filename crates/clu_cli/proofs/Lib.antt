@@ -3,3 +3,4 @@ pub mod Counting
 pub mod FirstTwin
 pub mod Printing
 pub mod Prints
+pub mod Decided

@@ -1,5 +1,5 @@
 -- What a run promises: the headline, and the cause of each status.
-use Rattle.std.specs.Prelude.{◌≡◌, ◌↔◌, ℕ, zero, suc, pos, ◌≤◌, ◌≤ℤ◌, List, length, Option, String}
+use Rattle.std.specs.Prelude.{◌≡◌, ◌⊎◌, ◌↔◌, ℕ, zero, suc, pos, ◌≤◌, ◌≤ℤ◌, List, length, Option, String}
 use Rattle.std.specs.Global.{Global}
 use Rattle.clu_outside.specs.Folder.{Told, one_call_later, Holds, HoldsMore, Lacks}
 use Rattle.clu_outside.specs.Sink.{TakesSome, with_bytes}
@@ -77,6 +77,21 @@ pub record IsCutShort (words : List (String Global)) (told : Option Told) (old n
   pub status : ℕ
   pub answer : IsAnswer bytes printed status
   pub taken : TakesSome old new printed
+
+-- the file that the words name is a text of a graph
+pub record IsReadable (words : List (String Global)) (told : Option Told) : Type 0 where
+  pub bytes : List ℕ
+  pub loaded : IsLoaded words told bytes
+  pub graph : PaceGraph
+  pub accepted : IsAccepted bytes graph
+
+-- The words and the file decide the status, but where a read fault (7), a write fault (8) or want of memory (9) comes
+-- before it.
+pub record IsDecided (words : List (String Global)) (told : Option Told) (status : ℕ) : Type 0 where
+  pub absent : IsAbsent words told → (status ≡ 11) ⊎ (status ≡ 7) ⊎ (status ≡ 9)
+  pub too_long : IsTooLong words told → (status ≡ 10) ⊎ (status ≡ 7) ⊎ (status ≡ 9)
+  pub refused : IsRefused words told → (status ≡ 4) ⊎ (status ≡ 7) ⊎ (status ≡ 9)
+  pub readable : IsReadable words told → (status ≤ 1) ⊎ (status ≡ 7) ⊎ (status ≡ 8) ⊎ (status ≡ 9)
 
 -- what a folder tells after this many calls that changed no file
 abbrev pub after_calls : ℕ → Option Told → Option Told

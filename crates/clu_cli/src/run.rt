@@ -1,6 +1,6 @@
-ghost use Rattle.std.specs.Prelude.{◌≡◌, ◌≢◌, ◌↔◌, ◌≤◌, ◌⊎◌, ℕ, List, IsTrue};
+ghost use Rattle.std.specs.Prelude.{◌≡◌, ◌≢◌, ◌↔◌, ◌≤◌, ◌⊎◌, ℕ, List, Some, IfSome, IsTrue};
 ghost use Rattle.clu_outside.specs.Counts.{Rose};
-ghost use Rattle.clu_cli.specs.Headline.{PrintsAnswer, IsRefused, IsAbsent, IsTooLong, IsCutShort, KeepsFiles};
+ghost use Rattle.clu_cli.specs.Headline.{PrintsAnswer, IsRefused, IsAbsent, IsTooLong, IsCutShort, IsDecided, KeepsFiles};
 ghost use Rattle.clu_cli.specs.Status.{end_status, is_status, WritesLine};
 ghost use Rattle.clu_cli.specs.Words.{IsSolve};
 
@@ -110,6 +110,7 @@ pub fn run<F: Folder, O: Sink, E: Sink>(
     ensures too_long { result ≡ 10 → IsTooLong words.now (F.told folder.old) }
     ensures absent { result ≡ 11 → IsAbsent words.now (F.told folder.old) }
     ensures known { IsTrue (is_status result) }
+    ensures decided { IfSome (F.told folder.old) (λ told. IsDecided words.now (Some told) result) }
 
     // What each leaves: nothing or a prefix of the report, a line on err, and the files as they were.
     ensures cut_short { result ≡ 8
