@@ -1,13 +1,13 @@
 -- The words and the file decide the status: each cause excludes the others.
-use Rattle.std.proofs.Common.{◌≡◌, ℕ, ◌<◌, ◌≤◌, List, [], ◌∷◌, length, true, inl, inr, sym, ◌∙◌, subst, arith, Some, None}
-use Rattle.std.specs.Prelude.{◌⊎◌, Option, String, IfSome, IsSomeAnd, IsTrue, codes}
+use Rattle.std.proofs.Common.{◌≡◌, ℕ, ◌<◌, ◌≤◌, List, [], ◌∷◌, length, inl, inr, sym, ◌∙◌, subst, arith, Some, None}
+use Rattle.std.specs.Prelude.{Option, String, IfSome, IsSomeAnd, IsTrue, codes}
 use Rattle.std.specs.Global.{Global}
 use Rattle.std.proofs.lemmas.Bool.{cases_eq, cases_lt}
 use Rattle.std.proofs.lemmas.Bool.Decides.{nat_tests}
 use Rattle.clu_outside.specs.Folder.{Told}
 use Rattle.clu_pace.specs.Graph.{PaceGraph}
 use Rattle.clu_pace.specs.Pace.{IsAccepted}
-use Rattle.clu_cli.specs.Headline.{PrintsAnswer, IsAbsent, IsCutShort, IsDecided, IsLoaded, IsReadable, IsRefused, IsTooLong, max_bytes}
+use Rattle.clu_cli.specs.Headline.{PrintsAnswer, IsAbsent, IsCutShort, IsDecided, IsLoaded, IsRefused, IsTooLong, max_bytes}
 use Rattle.clu_cli.specs.Status.{is_status}
 use Rattle.clu_cli.specs.Words.{IsSolve}
 

@@ -1,6 +1,6 @@
 -- The text of a graph, after the file format of the PACE 2021 challenge, exact track: the kept lines are a header
 -- `p cep n m` and then m edges.
-use Rattle.std.specs.Prelude.{◌≡◌, ◌≢◌, ◌==◌, ℕ, ◌-◌, ◌<◌, ◌≤◌, ◌^◌, Bool, false, List, [], ◌∷◌, codes, filter, length, map, max, min, not, slice_index}
+use Rattle.std.specs.Prelude.{◌≡◌, ◌≢◌, ◌==◌, ℕ, ◌-◌, ◌<◌, ◌≤◌, Bool, false, List, [], ◌∷◌, codes, filter, length, map, max, min, not, slice_index}
 use Rattle.clu_text.specs.Lines.{lines_of, fields_of}
 use Rattle.clu_text.specs.Numbers.{IsU32}
 use Rattle.clu_pace.specs.Graph.{PaceGraph, is_edge}
