@@ -2,10 +2,11 @@
 use Rattle.std.proofs.Common.{◌≡◌, ℕ, zero, suc, ◌+◌, ◌-◌, ◌<◌, ◌&&◌, Bool, not, List, [], ◌∷◌, length, get_or, ◌∙◌, ap, arith}
 use Rattle.std.specs.Prelude.{count_by, cond}
 use Rattle.std.specs.List.{range_with_len}
-use Rattle.std.proofs.lemmas.List.Sums.{sum_by-append}
+use Rattle.std.proofs.lemmas.List.Sums.{sum_by-cons}
 use Rattle.clu_partition.specs.Partition.{share_block}
 use Rattle.clu_pace.specs.Graph.{PaceGraph, are_adjacent, AreWithin}
 use Rattle.clu_cli.specs.Edits.{count_pairs, missing_edges}
+use Rattle.clu_cli.proofs.Ranges.{range_first}
 
 abbrev pub is_missing : PaceGraph → List ℕ → ℕ → ℕ → Bool
 is_missing graph labels u v = share_block labels u v && not (are_adjacent graph.edges u v)
@@ -18,11 +19,8 @@ missing_from graph labels u = count_pairs (is_missing graph labels) (range_with_
 unfoldable pub missing_in_row : PaceGraph → List ℕ → ℕ → ℕ → ℕ
 missing_in_row graph labels u v = count_by (is_missing graph labels u) (range_with_len v (graph.n - v))
 
-range_first : (n u : ℕ) → u < n → range_with_len u (n - u) ≡ u ∷ range_with_len (u + 1) (n - (u + 1))
-range_first n u at = let more : n - u ≡ suc (n - (u + 1)) = omega arith in ap (range_with_len u) more
-
 count_cons : (p : ℕ → Bool) (x : ℕ) (xs : List ℕ) → count_by p (x ∷ xs) ≡ cond (p x) 1 0 + count_by p xs
-count_cons p x xs = sum_by-append (λ y. cond (p y) 1 0) (x ∷ []) xs ∙ omega arith
+count_cons p x xs = sum_by-cons (λ y. cond (p y) 1 0) x xs
 
 pub all_pairs : (graph : PaceGraph) (labels : List ℕ) → missing_from graph labels 0 ≡ missing_edges graph labels
 unfolding missing_from

@@ -1,6 +1,7 @@
 pub mod Causes
 pub mod Counting
+pub mod Decided
 pub mod FirstTwin
 pub mod Printing
 pub mod Prints
-pub mod Decided
+pub mod Ranges

@@ -8,13 +8,11 @@ use Rattle.std.proofs.lemmas.List.{get_or_append_left}
 use Rattle.clu_pace.specs.Graph.{PaceGraph}
 use Rattle.clu_cli.specs.CriticalCliques.{AreTrueTwins, in_neighbourhood}
 use Rattle.clu_cli.specs.Fingerprints.{AreFingerprints, fingerprint_of, marked}
+use Rattle.clu_cli.proofs.Ranges.{range_first}
 
 -- a sum, and the marks of the neighbours from w on
 unfoldable pub marked_from : PaceGraph → List ℕ → ℕ → ℕ → ℕ → ℕ
 marked_from graph marks v sum w = marked graph marks v sum (range_with_len w (graph.n - w))
-
-range_first : (n u : ℕ) → u < n → range_with_len u (n - u) ≡ u ∷ range_with_len (u + 1) (n - (u + 1))
-range_first n u at = let more : n - u ≡ suc (n - (u + 1)) = omega arith in ap (range_with_len u) more
 
 pub print_start : (graph : PaceGraph) (marks : List ℕ) (v : ℕ) → marked_from graph marks v 0 0 ≡ fingerprint_of graph marks v
 unfolding marked_from fingerprint_of
