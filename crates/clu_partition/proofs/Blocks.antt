@@ -8,6 +8,7 @@ use Rattle.std.proofs.lemmas.List.{append-nil, get_or-replicate, get_or-set_same
 use Rattle.std.proofs.lemmas.List.Elements.{filter-append}
 use Rattle.std.proofs.lemmas.List.FromFn.{fill_by_all}
 use Rattle.clu_partition.specs.Partition.{block_count_of, blocks_of}
+use Rattle.clu_partition.proofs.Ranges.{below_more}
 
 -- those of the vertices below i that have the label k
 abbrev pub block_below : List ℕ → ℕ → ℕ → List ℕ
@@ -24,18 +25,10 @@ divided_none labels count is = record {
   each = λ k h. get_or-replicate count k [] [] (omega (arith, is));
 }
 
-range_more : (a n : ℕ) → range_with_len a (n + 1) ≡ range_with_len a n ++ (a + n) ∷ []
-range_more a zero = ap (λ (k : ℕ). k ∷ []) (omega arith)
-range_more a (suc n) =
-    let longer : suc n + 1 ≡ suc (n + 1) = omega arith in
-    let last : (a + 1) + n ≡ a + suc n = omega arith in
-    ap (range_with_len a) longer ∙ ap (λ (ks : List ℕ). a ∷ ks) (range_more (a + 1) n ∙ ap (λ (k : ℕ). range_with_len (a + 1) n ++ k ∷ []) last)
-
 block_more : (labels : List ℕ) (i k : ℕ) (b : Bool) → nat_eq (get_or labels i 0) k ≡ b → block_below labels (i + 1) k ≡ block_below labels i k ++ cond b (i ∷ []) []
 block_more labels i k b is =
     let p : ℕ → Bool = λ v. nat_eq (get_or labels v 0) k in
-    let here : 0 + i ≡ i = omega arith in
-    ap (filter p) (range_more 0 i ∙ ap (λ (v : ℕ). range_with_len 0 i ++ v ∷ []) here)
+    ap (filter p) (below_more i)
     ∙ filter-append p (range_with_len 0 i) (i ∷ [])
     ∙ ap (λ (c : Bool). block_below labels i k ++ cond c (i ∷ []) []) is
 

@@ -1,14 +1,24 @@
-//! Vertices, their names, and partitions of them into blocks.
+//! Vertices, their names, the weights of their pairs, the rules they obey, and partitions of them
+//! into blocks.
 //!
 //! The crates above use this: a `Partition` is the list of its labels, numbered from 0 by first
-//! appearance, and `Names` ties each vertex to the bytes of its name. The definitions stand in
-//! `specs/Partition.antt` and `specs/Names.antt`.
+//! appearance, a `PairTable` has the weight of each pair, a `Start` the closed rules, and `Names`
+//! ties each vertex to the bytes of its name. The definitions stand in `specs/`: `Partition.antt`
+//! for partitions, `Values.antt` for what they are worth, `Pairs.antt`, `Closed.antt` and
+//! `Names.antt`.
 #![tactic(auto)]
 
+mod list;
 mod names;
 mod partition;
+mod start;
+mod sums;
+mod table;
 mod vertex;
 
+pub use list::VertexList;
 pub use names::{Name, Names};
-pub use partition::{Block, Partition};
+pub use partition::Partition;
+pub use start::Start;
+pub use table::{PairTable, place};
 pub use vertex::Vertex;

@@ -1,48 +1,14 @@
-ghost use Rattle.std.specs.Prelude.{◌≡◌, ◌≤◌, ◌<◌, ◌++◌, ◌∷◌, [], ℕ, length, IfOk, OnOk, replicate, slice_index};
-ghost use Rattle.clu_partition.specs.Partition.{EachOnce, IsPartition, SameBlocks, block_count_of, blocks_of};
+ghost use Rattle.std.specs.Prelude.{◌≡◌, ◌≤◌, ◌≤ℤ◌, ◌<◌, ◌^◌, ◌==◌, [], ℕ, pos, length, All, IfOk, replicate, slice_index, unsigned_abs};
+ghost use Rattle.clu_partition.specs.Pairs.{total_of, weight_of};
+ghost use Rattle.clu_partition.specs.Sums.{only_if};
+ghost use Rattle.clu_partition.specs.Values.{value_on, value_by_place};
+ghost use Rattle.clu_partition.specs.Partition.{below, EachOnce, IsPartition, SameBlocks, block_count_of, blocks_of};
 ghost use Rattle.clu_partition.specs.Placing.{IsApart, Places};
 
-use crate::Vertex;
+use crate::sums::pair_sum;
+use crate::{PairTable, Vertex, VertexList};
 use std::alloc::{AllocError, Global};
 use std::marker::Model;
-
-/// A block of a partition: its vertices, rising.
-#[derive(Debug, Drop)]
-pub struct Block {
-    vertices: Vec<Vertex>,
-}
-
-impl Model for Block {
-    ghost use Rattle.std.specs.Prelude.{List, ℕ};
-
-    ghost Value = { List ℕ };
-
-    ghost view = { λ block. block.vertices.items };
-}
-
-impl Block {
-    fn new(alloc: Global) -> Self
-        ensures { result ≡ [] }
-    {
-        Block {
-            vertices: Vec::new(alloc),
-        }
-    }
-
-    fn push(&mut self, v: Vertex) -> Result<(), AllocError>
-        ensures { OnOk result (self.new ≡ self.old ++ v ∷ []) }
-    {
-        self.vertices.push(v)?;
-        Ok(())
-    }
-
-    /// The vertices, rising.
-    pub fn vertices(&self) -> &[Vertex]
-        ensures { result.now ≡ self.now }
-    {
-        &self.vertices
-    }
-}
 
 /// A partition of vertices into blocks, which contracts see as the list of the vertices' labels,
 /// numbered from 0 by first appearance.
@@ -101,7 +67,7 @@ impl Partition {
 
     /// The blocks in the order of their labels, the vertices of each rising.
     #[tactic(auto, using(crate::proofs::Blocks::divided_none, crate::proofs::Blocks::divided_more, crate::proofs::Blocks::divided_all, crate::proofs::Blocks::label_below))]
-    pub fn blocks(&self, alloc: Global) -> Result<Vec<Block>, AllocError>
+    pub fn blocks(&self, alloc: Global) -> Result<Vec<VertexList>, AllocError>
         ensures { IfOk result (λ blocks. blocks.items ≡ blocks_of self.now) }
     {
         let mut blocks = empty_blocks(alloc, self.count as usize)?;
@@ -111,14 +77,72 @@ impl Partition {
         }
         Ok(blocks)
     }
+
+    /// The value of the partition: the sum of the weights of the pairs that share a block.
+    pub fn value(&self, pairs: &PairTable) -> i128
+        requires { length self.now ≡ pairs.now.n }
+        ensures value { result ≡ value_on (weight_of pairs.now) (slice_index self.now) (below pairs.now.n) }
+        ensures small { pos (unsigned_abs result) ≤ℤ total_of pairs.now }
+    {
+        let n = self.labels.len() as u32;
+        pair_sum(n, |i, j| {
+            let pair = (Vertex(i), Vertex(j));
+            self.shared_weight(i, j, pair, pairs)
+        })
+    }
+
+    /// The value of the partition where its labels belong to members, the label at place i to the
+    /// member at place i.
+    pub fn value_on(&self, members: &[Vertex], pairs: &PairTable) -> i128
+        requires one_each { length self.now ≡ length members.now }
+        requires within { All (λ v. v < pairs.now.n) members.now }
+        ensures value { result ≡ value_by_place (weight_of pairs.now) self.now members.now }
+        ensures labelled { (label : ℕ → ℕ)
+            → ((i : ℕ) → i < length members.now → label (slice_index members.now i) ≡ slice_index self.now i)
+            → result ≡ value_on (weight_of pairs.now) label members.now }
+    {
+        let n = self.labels.len() as u32;
+        pair_sum(n, |i, j| self.member_weight(i, j, members, pairs))
+    }
+
+    /// The weight of the members at places i and j where their labels are one, else 0.
+    fn member_weight(&self, i: u32, j: u32, members: &[Vertex], pairs: &PairTable) -> i128
+        requires one_each { length self.now ≡ length members.now }
+        requires within { All (λ v. v < pairs.now.n) members.now }
+        requires first { i < length members.now }
+        requires second { j < length members.now }
+        ensures value { result ≡ only_if (slice_index self.now i == slice_index self.now j)
+            (weight_of pairs.now (slice_index members.now i) (slice_index members.now j)) }
+        ensures small { unsigned_abs result ≤ 2 ^ 88 }
+    {
+        let pair = (members[i as usize], members[j as usize]);
+        self.shared_weight(i, j, pair, pairs)
+    }
+
+    /// The weight of a pair where the labels at places i and j are one, else 0.
+    fn shared_weight(&self, i: u32, j: u32, pair: (Vertex, Vertex), pairs: &PairTable) -> i128
+        requires first_place { i < length self.now }
+        requires second_place { j < length self.now }
+        requires first { pair.0 < pairs.now.n }
+        requires second { pair.1 < pairs.now.n }
+        ensures value { result ≡ only_if (slice_index self.now i == slice_index self.now j)
+            (weight_of pairs.now pair.0 pair.1) }
+        ensures small { unsigned_abs result ≤ 2 ^ 88 }
+    {
+        if self.labels[i as usize] == self.labels[j as usize] {
+            pairs.get(pair.0, pair.1)
+        } else {
+            0
+        }
+    }
 }
 
-fn empty_blocks(alloc: Global, count: usize) -> Result<Vec<Block>, AllocError>
+fn empty_blocks(alloc: Global, count: usize) -> Result<Vec<VertexList>, AllocError>
     ensures { IfOk result (λ blocks. blocks.items ≡ replicate count []) }
 {
     let mut blocks = Vec::with_capacity(alloc, count)?;
     for _ in 0..count {
-        blocks.push(Block::new(alloc))?;
+        blocks.push(VertexList::new(alloc))?;
     }
     Ok(blocks)
 }
@@ -165,6 +189,23 @@ mod tests {
         let first = [Vertex(0), Vertex(1), Vertex(3)];
         assert_eq!(rt; blocks[0].vertices(), first.as_slice());
         assert_eq!(rt; blocks[1].vertices(), [Vertex(2)].as_slice());
+        Ok(())
+    }
+
+    #[test]
+    fn pairs_inside_blocks_make_the_value(rt: HostRuntime) -> Result<(), Fail> {
+        let alloc = rt.alloc();
+        let mut pairs = PairTable::new(alloc, 4)?;
+        pairs.set(Vertex(0), Vertex(1), 3);
+        pairs.set(Vertex(0), Vertex(2), -5);
+        pairs.set(Vertex(0), Vertex(3), 2);
+        pairs.set(Vertex(1), Vertex(2), 70);
+        pairs.set(Vertex(1), Vertex(3), -9);
+        let partition = Partition::from_labels(alloc, &[0, 0, 1, 0])?;
+        assert_eq!(rt; partition.value(&pairs), -4);
+        let members = [Vertex(3), Vertex(1), Vertex(2)];
+        let halves = Partition::from_labels(alloc, &[0, 1, 1])?;
+        assert_eq!(rt; halves.value_on(&members, &pairs), 70);
         Ok(())
     }
 }

@@ -1,0 +1,19 @@
+-- Groups of members: `group u` is the least vertex of the group of u.
+use Rattle.std.specs.Prelude.{ℕ, ℤ, List, Bool, not, ◌==◌, filter}
+use Rattle.clu_partition.specs.Sums.{pair_total, cross_total, only_if}
+
+-- the least vertices of the groups, in the members' order
+abbrev pub leaders : (ℕ → ℕ) → List ℕ → List ℕ
+leaders group members = filter (λ u. group u == u) members
+
+-- the members of the group whose least vertex is a
+abbrev pub block : (ℕ → ℕ) → List ℕ → ℕ → List ℕ
+block group members a = filter (λ u. group u == a) members
+
+-- the weight of two groups, named by their least vertices
+abbrev pub between : (ℕ → ℕ → ℤ) → (ℕ → ℕ) → List ℕ → ℕ → ℕ → ℤ
+between weight group members a b = cross_total weight (block group members a) (block group members b)
+
+-- the sum of f over the free pairs of groups
+abbrev pub free_total : (ℕ → ℕ → Bool) → (ℕ → ℕ → ℤ) → List ℕ → ℤ
+free_total apart f groups = pair_total (λ a b. only_if (not (apart a b)) (f a b)) groups

@@ -1,0 +1,119 @@
+ghost use Rattle.std.specs.Prelude.{◌≡◌, ◌≢◌, ◌<◌, ◌≤◌, ◌^◌, ◌*◌, IfOk, unsigned_abs, ℕ, pos};
+ghost use Rattle.clu_partition.specs.Pairs.{weight_of, with_weight, total_of, place as place_of};
+
+use crate::Vertex;
+use crate::sums::pair_sum;
+use std::alloc::{AllocError, Global};
+use std::marker::Model;
+
+/// The weights of the pairs of n vertices, each a signed number of at most 2^88 in size. The two
+/// orders of a pair have one weight.
+#[derive(Debug, Drop)]
+pub struct PairTable {
+    n: u32,
+    weights: Vec<i128>,
+}
+
+impl Model for PairTable {
+    ghost use Rattle.clu_partition.specs.Pairs.{Pairs, IsTable};
+
+    ghost Value = { Pairs };
+
+    ghost view = { λ t. record { n = t.n; weights = t.weights.items } };
+
+    ghost invariant = { λ t. IsTable (record { n = t.n; weights = t.weights.items }) };
+}
+
+/// Where what belongs to the pair of u and v, in either order, stands in a list of n * n.
+pub fn place(n: u32, u: Vertex, v: Vertex) -> usize
+    requires first { u < n }
+    requires second { v < n }
+    requires small { n ≤ 1000 }
+    ensures value { result ≡ place_of n u v }
+    ensures within { result < n * n }
+{
+    let low = u.0.min(v.0) as usize;
+    let high = u.0.max(v.0) as usize;
+    low * n as usize + high
+}
+
+impl PairTable {
+    ghost use Rattle.clu_partition.specs.Pairs.{IsTable};
+
+    /// The table of n vertices, at most 1,000, whose pairs all have the weight 0.
+    pub fn new(alloc: Global, n: u32) -> Result<PairTable, AllocError>
+        requires { n ≤ 1000 }
+        ensures size { IfOk result (λ t. t.n ≡ n) }
+        ensures zero { IfOk result (λ t. (u v : ℕ) → weight_of t u v ≡ pos 0) }
+    {
+        let size = n as usize;
+        Ok(PairTable {
+            n,
+            weights: vec![in alloc; 0; size * size]?,
+        })
+    }
+
+    /// The number of vertices.
+    pub fn n(&self) -> u32
+        ensures value { result ≡ self.now.n }
+        ensures table { IsTable self.now }
+        ensures small { result ≤ 1000 }
+    {
+        self.n
+    }
+
+    /// The weight of the pair of u and v; 0 where they are one vertex.
+    pub fn get(&self, u: Vertex, v: Vertex) -> i128
+        requires first { u < self.now.n }
+        requires second { v < self.now.n }
+        ensures value { result ≡ weight_of self.now u v }
+        ensures small { unsigned_abs result ≤ 2 ^ 88 }
+    {
+        if u == v {
+            return 0;
+        }
+        let i = place(self.n, u, v);
+        self.weights[i]
+    }
+
+    /// Gives the pair of u and v the weight w.
+    pub fn set(&mut self, u: Vertex, v: Vertex, w: i128)
+        requires first { u < self.old.n }
+        requires second { v < self.old.n }
+        requires differ { u ≢ v }
+        requires small { unsigned_abs w ≤ 2 ^ 88 }
+        ensures changed { self.new ≡ with_weight self.old u v w }
+        ensures table { IsTable self.old }
+    {
+        let i = place(self.n, u, v);
+        self.weights[i] = w;
+    }
+
+    /// The total of the absolute weights of all pairs.
+    pub fn total_abs(&self) -> u128
+        ensures { pos result ≡ total_of self.now }
+    {
+        let total = pair_sum(self.n(), |u, v| self.get(Vertex(u), Vertex(v)).abs());
+        total.unsigned_abs()
+    }
+}
+
+#[cfg(test)]
+mod tests {
+    use super::*;
+    use std::test::Fail;
+
+    #[test]
+    fn both_orders_of_a_pair_have_one_weight(rt: HostRuntime) -> Result<(), Fail> {
+        let mut table = PairTable::new(rt.alloc(), 3)?;
+        assert_eq!(rt; table.n(), 3);
+        table.set(Vertex(2), Vertex(0), -5);
+        table.set(Vertex(0), Vertex(1), 3);
+        assert_eq!(rt; table.get(Vertex(0), Vertex(2)), -5);
+        assert_eq!(rt; table.get(Vertex(2), Vertex(0)), -5);
+        assert_eq!(rt; table.get(Vertex(1), Vertex(0)), 3);
+        assert_eq!(rt; table.get(Vertex(1), Vertex(2)), 0);
+        assert_eq!(rt; table.total_abs(), 8);
+        Ok(())
+    }
+}
