@@ -1,3 +1,4 @@
+pub mod GraphLaws
 pub mod Cells
 pub mod Kept
 pub mod Reading

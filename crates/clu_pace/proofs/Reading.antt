@@ -1,21 +1,17 @@
 -- The edges read so far, and the lines that are left.
-use Rattle.std.proofs.Common.{◌≡◌, ℕ, ◌-◌, ◌<◌, ◌&&◌, ◌||◌, Bool, true, false, List, [], ◌∷◌, ◌++◌, min, max, nat_eq, refl, sym, ◌∙◌, ap, subst, arith, append_assoc}
+use Rattle.std.proofs.Common.{◌≡◌, ℕ, ◌-◌, ◌&&◌, ◌||◌, true, false, List, [], ◌∷◌, ◌++◌, min, max, nat_eq, refl, sym, ◌∙◌, ap, subst, arith, append_assoc}
 use Rattle.std.specs.Str.Parse.{digits_value}
-use Rattle.std.proofs.lemmas.Bool.{false≢true}
+use Rattle.std.proofs.lemmas.Bool.{false≢true, or_parts}
 use Rattle.std.proofs.lemmas.Bool.Decides.{nat_tests}
 use Rattle.std.proofs.lemmas.List.{append-nil}
 use Rattle.std.proofs.lemmas.List.Folds.{list_any-append}
-use Rattle.clu_pace.specs.Graph.{is_edge, are_adjacent}
-use Rattle.clu_pace.specs.Pace.{IsEdgeLine, AreEdges, NoneTwice}
+use Rattle.clu_pace.specs.Graph.{is_edge, NoneTwice}
+use Rattle.clu_pace.specs.Pace.{IsEdgeLine, AreEdges}
 
 -- of the lines, those before `left` are the edges `done`
 pub record Reading (n : ℕ) (lines left : List (List (List ℕ))) (done : List (ℕ × ℕ)) : Type 0 where
   pub back : (tail : List (ℕ × ℕ)) → AreEdges n left tail → AreEdges n lines (done ++ tail)
   pub onward : (edges : List (ℕ × ℕ)) → AreEdges n lines edges → (tail : List (ℕ × ℕ)) × (edges ≡ done ++ tail) × AreEdges n left tail
-  pub once : NoneTwice done
-
-pub start : (n : ℕ) (lines : List (List (List ℕ))) → Reading n lines lines []
-start n lines = record { back = λ tail h. h; onward = λ edges h. (edges, refl, h); once = tt }
 
 -- a line is one edge at most
 pub same_edge : (n : ℕ) (line : List (List ℕ)) (e f : ℕ × ℕ) → IsEdgeLine n line e → IsEdgeLine n line f → e ≡ f
@@ -37,22 +33,6 @@ same_edges n (line ∷ lines) (e ∷ es) (f ∷ fs) these those =
     let first : e ≡ f = same_edge n line e f these.0 those.0 in
     let rest : es ≡ fs = same_edges n lines es fs these.1 those.1 in
     λ i. first i ∷ rest i
-
-or_parts : (x y : Bool) → (x || y) ≡ false → (x ≡ false) × (y ≡ false)
-or_parts true y e = absurd (false≢true (sym e))
-or_parts false y e = (refl, e)
-
-absent_push : (edges : List (ℕ × ℕ)) (d e : ℕ × ℕ) → is_edge edges d.0 d.1 ≡ false → (nat_eq d.0 e.0 && nat_eq d.1 e.1) ≡ false → is_edge (edges ++ e ∷ []) d.0 d.1 ≡ false
-absent_push edges d e absent differ =
-    let more : is_edge (edges ++ e ∷ []) d.0 d.1 ≡ (is_edge edges d.0 d.1 || is_edge (e ∷ []) d.0 d.1) = list_any-append (λ x. nat_eq x.0 d.0 && nat_eq x.1 d.1) edges (e ∷ []) in
-    grind (arith, nat_tests)
-
-once_push : (done : List (ℕ × ℕ)) (e : ℕ × ℕ) → NoneTwice done → is_edge done e.0 e.1 ≡ false → NoneTwice (done ++ e ∷ [])
-once_push [] e once absent = (refl, tt)
-once_push (d ∷ done) e once absent =
-    let here : (nat_eq d.0 e.0 && nat_eq d.1 e.1) ≡ false = (or_parts _ _ absent).0 in
-    let rest : is_edge done e.0 e.1 ≡ false = (or_parts _ _ absent).1 in
-    (absent_push done d e once.0 here, once_push done e once.1 rest)
 
 once_front : (done : List (ℕ × ℕ)) (e : ℕ × ℕ) (tail : List (ℕ × ℕ)) → NoneTwice (done ++ e ∷ tail) → is_edge done e.0 e.1 ≡ false
 once_front [] e tail once = refl
@@ -80,14 +60,13 @@ module _ (n : ℕ) (lines left : List (List (List ℕ))) (line : List (List ℕ)
       let same : f.0 ≡ e = same_edge n line f.0 e f.3 is in
       false≢true (sym absent ∙ ap (λ (d : ℕ × ℕ). is_edge done d.0 d.1) same ∙ twice)
 
-  pub read_more : (e : ℕ × ℕ) → IsEdgeLine n line e → is_edge done e.0 e.1 ≡ false → Reading n lines left (done ++ e ∷ [])
-  read_more e is absent = record {
+  pub read_more : (e : ℕ × ℕ) → IsEdgeLine n line e → Reading n lines left (done ++ e ∷ [])
+  read_more e is = record {
     back = λ tail are. subst (λ (edges : List (ℕ × ℕ)). AreEdges n lines edges) (sym (append_assoc done (e ∷ []) tail)) (old.back (e ∷ tail) (is, are));
     onward = λ edges are.
         let on = old.onward edges are in
         let f = first_left edges on.0 on.1 on.2 in
         (f.1, f.2 ∙ ap (λ (d : ℕ × ℕ). done ++ d ∷ f.1) (same_edge n line f.0 e f.3 is) ∙ sym (append_assoc done (e ∷ []) f.1), f.4);
-    once = once_push done e old.once absent;
   }
 
 none_left : (n : ℕ) (done edges tail : List (ℕ × ℕ)) → edges ≡ done ++ tail → AreEdges n [] tail → edges ≡ done
@@ -100,9 +79,3 @@ module _ (n : ℕ) (lines : List (List (List ℕ))) (done : List (ℕ × ℕ)) (
 
   pub only_all : (edges : List (ℕ × ℕ)) → AreEdges n lines edges → edges ≡ done
   only_all edges are = let on = all.onward edges are in none_left n done edges on.0 on.1 on.2
-
-pub in_order : (edges : List (ℕ × ℕ)) (u v : ℕ) → u < v → are_adjacent edges u v ≡ is_edge edges u v
-in_order edges u v order =
-    let low : min u v ≡ u = omega arith in
-    let high : max u v ≡ v = omega arith in
-    λ i. is_edge edges (low i) (high i)

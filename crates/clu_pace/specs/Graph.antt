@@ -1,5 +1,5 @@
 -- Graphs as lists of edges.
-use Rattle.std.specs.Prelude.{ℕ, ◌<◌, ◌&&◌, Bool, List, [], ◌∷◌, max, min, nat_eq}
+use Rattle.std.specs.Prelude.{◌≡◌, ℕ, ◌<◌, ◌&&◌, Bool, false, List, [], ◌∷◌, max, min, nat_eq}
 use Rattle.std.specs.List.{list_any}
 
 -- the vertices 0 to n - 1, and the edges, each with its smaller vertex first
@@ -19,3 +19,8 @@ are_adjacent edges u v = is_edge edges (min u v) (max u v)
 abbrev pub AreWithin : ℕ → List (ℕ × ℕ) → Type 0
 AreWithin n [] = Unit {0}
 AreWithin n (edge ∷ edges) = (edge.0 < edge.1) × (edge.1 < n) × AreWithin n edges
+
+-- no pair stands twice
+abbrev pub NoneTwice : List (ℕ × ℕ) → Type 0
+NoneTwice [] = Unit {0}
+NoneTwice (edge ∷ edges) = (is_edge edges edge.0 edge.1 ≡ false) × NoneTwice edges

@@ -3,7 +3,7 @@
 use Rattle.std.specs.Prelude.{◌≡◌, ◌≢◌, ◌==◌, ℕ, ◌-◌, ◌<◌, ◌≤◌, Bool, false, List, [], ◌∷◌, codes, filter, length, map, max, min, not, slice_index}
 use Rattle.clu_text.specs.Lines.{lines_of, fields_of}
 use Rattle.clu_text.specs.Numbers.{IsU32}
-use Rattle.clu_pace.specs.Graph.{PaceGraph, is_edge}
+use Rattle.clu_pace.specs.Graph.{PaceGraph, NoneTwice}
 
 -- what a comment begins with: 'c'
 abbrev pub comment_mark : ℕ
@@ -50,11 +50,6 @@ AreEdges n [] [] = Unit {0}
 AreEdges n [] (edge ∷ edges) = ⊥
 AreEdges n (line ∷ lines) [] = ⊥
 AreEdges n (line ∷ lines) (edge ∷ edges) = IsEdgeLine n line edge × AreEdges n lines edges
-
--- no pair stands twice
-abbrev pub NoneTwice : List (ℕ × ℕ) → Type 0
-NoneTwice [] = Unit {0}
-NoneTwice (edge ∷ edges) = (is_edge edges edge.0 edge.1 ≡ false) × NoneTwice edges
 
 -- the lines are these edges, m in number and none twice
 pub record AreAllEdges (n m : ℕ) (lines : List (List (List ℕ))) (edges : List (ℕ × ℕ)) : Type 0 where

@@ -1,5 +1,5 @@
 ghost use Rattle.std.specs.Prelude.{◌≡◌, ◌≤◌, ◌<◌, ◌+◌, ◌*◌, ◌++◌, [], ◌∷◌, ℕ, true, false, length, IfOk, OnOk, OnErr, slice_index_or, slice_set};
-ghost use Rattle.clu_pace.specs.Graph.{are_adjacent, AreWithin};
+ghost use Rattle.clu_pace.specs.Graph.{are_adjacent, AreWithin, NoneTwice};
 ghost use Rattle.clu_pace.specs.Numbers.{graph_names};
 
 use clu_partition::Vertex;
@@ -69,6 +69,7 @@ impl Graph {
     pub(crate) fn add(&mut self, u: Vertex, v: Vertex) -> Result<(), AllocError>
         requires order { u < v }
         requires within { v < self.old.n }
+        requires absent { are_adjacent self.old.edges u v ≡ false }
         ensures n { self.new.n ≡ self.old.n }
         ensures ok { OnOk result (self.new.edges ≡ self.old.edges ++ (u, v) ∷ []) }
         ensures err { OnErr result (self.new.edges ≡ self.old.edges) }
@@ -93,6 +94,7 @@ impl Graph {
     pub fn edges(&self) -> &[(Vertex, Vertex)]
         ensures edges { result.now ≡ self.now.edges }
         ensures within { AreWithin self.now.n self.now.edges }
+        ensures once { NoneTwice self.now.edges }
     {
         &self.edges
     }

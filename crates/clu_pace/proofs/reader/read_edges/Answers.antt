@@ -1,6 +1,7 @@
 use Rattle.std.proofs.Common.{ℕ, List, sym, ◌∙◌, subst, ap, length}
 use Rattle.clu_pace.specs.Pace.{kept_of}
-use Rattle.clu_pace.proofs.Reading.{Reading, refuse_edge, refuse_twice, read_more, are_all, only_all, in_order}
+use Rattle.clu_pace.proofs.GraphLaws.{in_order}
+use Rattle.clu_pace.proofs.Reading.{Reading, refuse_edge, refuse_twice, read_more, are_all, only_all}
 use Rattle.clu_pace.proofs.reader.read_edges.Goals as goal
 
 pub returns-in_default-read_edge-clause-refused : goal.returns-in_default-read_edge-clause-refused
@@ -17,8 +18,7 @@ returns-then-has-clause-refused c = λ _ edges are.
 pub loop-line-preserved : goal.loop-line-preserved
 loop-line-preserved c =
     let left = subst (λ (ls : List (List (List ℕ))). Reading c.args.n (kept_of c.args.lines.now) ls c.loop-line.graph.edges) c.in-Some.ensures c.loop-line.invariant.read in
-    let order = in_order c.loop-line.graph.edges c.in-Some-read_edge.edge.0 c.in-Some-read_edge.edge.1 c.in-Some-read_edge.ensures.within.0 in
-    let more = read_more _ _ _ _ _ left c.in-Some-read_edge.edge c.in-Some-read_edge.ensures.edge (sym order ∙ sym c.has.ensures ∙ c.if-has.false) in
+    let more = read_more _ _ _ _ _ left c.in-Some-read_edge.edge c.in-Some-read_edge.ensures.edge in
     record {
       n = c.add.ensures.n ∙ c.loop-line.invariant.n;
       read = subst (λ (es : List (ℕ × ℕ)). Reading c.args.n (kept_of c.args.lines.now) (kept_of c.next_kept.new.lines) es) (sym c.in_ok-add.ensures.ok) more;
@@ -34,6 +34,6 @@ returns-clause-edges c =
     let all = subst (λ (ls : List (List (List ℕ))). Reading c.args.n (kept_of c.args.lines.now) ls c.loop-line.graph.edges) c.in_default.ensures c.loop-line.invariant.read in
     record {
       each = are_all _ _ _ all;
-      once = c.loop-line.invariant.read.once;
+      once = c.edges.ensures.once;
       counted = ap length (sym c.edges.ensures.edges) ∙ c.if-edges-m.false;
     }
