@@ -1,0 +1,4 @@
+pub mod Counts
+pub mod EditLaws
+pub mod Poses
+pub mod Sizes
