@@ -1,0 +1,101 @@
+ghost use Rattle.std.specs.Prelude.{◌≡◌, ◌≢◌, ◌++◌, All, ℕ, ℤ, Contains, IfOk, OnOk, OnErr};
+ghost use Rattle.clu_state.specs.Chains.{IsLeastTied};
+ghost use Rattle.clu_state.specs.State.{State, IsFree, IsState, leader, group_weight, are_apart, fixed_value, free_pairs, free_with, group_leaders, CanDecide, decided};
+
+use crate::Decision;
+use clu_partition::{Vertex, VertexList};
+use std::alloc::{AllocError, Global};
+
+/// What the solver and the checker ask of a state: a pair table, closed rules, members, each group
+/// of the rules whole or not at all, and a list of decisions on free pairs of groups.
+pub trait Situation {
+    /// The table, the rules, the members and the decisions.
+    ghost state: { Self → State };
+
+    /// The members, rising.
+    fn members(&self) -> &[Vertex]
+        ensures value { result.now ≡ (state self.now).members }
+        ensures valid { IsState (state self.now) };
+
+    /// The decisions in the order in which they were made.
+    fn decisions(&self) -> &[Decision]
+        ensures { result.now ≡ (state self.now).decisions };
+
+    /// The least vertex of a member's group.
+    fn group_of(&self, v: Vertex) -> Vertex
+        requires { Contains (state self.now).members v }
+        ensures value { result ≡ leader (state self.now) v }
+        ensures tied { IsLeastTied (state self.now) v result };
+
+    /// The weight between the groups of two members: the sum over their vertex pairs.
+    fn weight(&self, u: Vertex, v: Vertex) -> i128
+        requires first { Contains (state self.now).members u }
+        requires second { Contains (state self.now).members v }
+        requires differ { leader (state self.now) u ≢ leader (state self.now) v }
+        ensures { result ≡ group_weight (state self.now) u v };
+
+    /// Whether the rules or a decision keep the groups of two members apart.
+    fn is_apart(&self, u: Vertex, v: Vertex) -> bool
+        requires first { Contains (state self.now).members u }
+        requires second { Contains (state self.now).members v }
+        requires differ { leader (state self.now) u ≢ leader (state self.now) v }
+        ensures { result ≡ are_apart (state self.now) u v };
+
+    /// The weight inside the groups.
+    fn fixed_value(&self) -> i128
+        ensures { result ≡ fixed_value (state self.now) };
+
+    /// Makes a decision on a free pair. After an error the state is as it was.
+    fn decide(&mut self, d: Decision) -> Result<(), AllocError>
+        requires { CanDecide (state self.old) d }
+        ensures ok { OnOk result (state self.new ≡ decided (state self.old) d) }
+        ensures err { OnErr result (state self.new ≡ state self.old) };
+
+    /// The least vertices of the groups, rising.
+    final fn leaders(&self, alloc: Global) -> Result<VertexList, AllocError>
+        ensures value { IfOk result (λ found. found ≡ group_leaders (state self.now)) }
+        ensures valid { IsState (state self.now) }
+    {
+        let mut found = VertexList::new(alloc);
+        for v in self.members() {
+            if self.group_of(*v) == *v {
+                found.push(*v)?;
+            }
+        }
+        Ok(found)
+    }
+
+    /// The free pairs of groups by their least vertices, the smaller first, rising.
+    final fn free_pairs(&self, alloc: Global) -> Result<Vec<(Vertex, Vertex)>, AllocError>
+        ensures value { IfOk result (λ pairs. pairs.items ≡ free_pairs (state self.now)) }
+        ensures free { IfOk result (λ pairs. All (λ p. IsFree (state self.now) p.0 p.1) pairs.items) }
+    {
+        let leaders = self.leaders(alloc)?;
+        let groups = leaders.vertices();
+        let mut pairs = Vec::new(alloc);
+        for (i, a) in groups.iter().enumerate() {
+            push_free(self, &mut pairs, *a, &groups[i + 1..])?;
+        }
+        Ok(pairs)
+    }
+}
+
+/// Appends the free pairs of a group with later ones.
+fn push_free<S: Situation>(
+    state: &S,
+    pairs: &mut Vec<(Vertex, Vertex)>,
+    a: Vertex,
+    later: &[Vertex],
+) -> Result<(), AllocError>
+    requires first { Contains (S.state state.now).members a }
+    requires members { All (Contains (S.state state.now).members) later.now }
+    requires differ { All (λ b. leader (S.state state.now) a ≢ leader (S.state state.now) b) later.now }
+    ensures { OnOk result (pairs.new.items ≡ pairs.old.items ++ free_with (S.state state.now) a later.now) }
+{
+    for b in later {
+        if !state.is_apart(a, *b) {
+            pairs.push((a, *b))?;
+        }
+    }
+    Ok(())
+}
