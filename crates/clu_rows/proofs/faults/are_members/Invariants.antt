@@ -1,0 +1,5 @@
+use Rattle.std.proofs.Common.{All, Contains, take}
+use Rattle.clu_rows.proofs.faults.are_members.Given as goal
+
+abbrev pub invariant-loop-v : goal.invariant-loop-v
+invariant-loop-v l = All (Contains l.members) (take l.v-index l.list)

@@ -1,0 +1,35 @@
+-- The leaves that prove a bound, and the faults of the others.
+use Rattle.std.specs.Prelude.{◌≢◌, ℕ, ◌≤◌, ◌<◌, ◌*◌, ◌+◌, ◌^◌, List, [], ◌∷◌, ◌++◌, All, Contains, length, sum_by, take}
+use Rattle.clu_rows.specs.Rows.{TwoSet}
+use Rattle.clu_state.specs.State.{State, leader}
+
+-- no two of the vertices name one group
+abbrev pub NamesOnce : (ℕ → ℕ) → List ℕ → Type 0
+NamesOnce group [] = Unit {0}
+NamesOnce group (v ∷ vs) = All (λ w. group v ≢ group w) vs × NamesOnce group vs
+
+-- a row that a leaf may have
+pub record IsRow (s : State) (r : TwoSet) : Type 0 where
+  pub first : 0 < length r.s
+  pub second : 0 < length r.t
+  pub members : All (Contains s.members) (r.s ++ r.t)
+  pub once : NamesOnce (leader s) (r.s ++ r.t)
+  pub worth : 0 < r.y
+
+abbrev pub worth_of : List TwoSet → ℕ
+worth_of rows = sum_by (λ r. r.y * (length r.s + length r.t) ^ 2) rows
+
+-- rows without a fault
+pub record AreRows (s : State) (rows : List TwoSet) : Type 0 where
+  pub each : All (IsRow s) rows
+  pub small : worth_of rows ≤ 2 ^ 120
+
+-- a denominator that a leaf may have
+abbrev pub IsDenominator : ℕ → Type 0
+IsDenominator den = (0 < den) × (den ≤ 2 ^ 32)
+
+-- the first row with which the rows have a fault, counted from 1
+pub record IsFirstFault (s : State) (rows : List TwoSet) (row : ℕ) : Type 0 where
+  pub counted : (0 < row) × (row ≤ length rows)
+  pub before : (k : ℕ) → k < row → AreRows s (take k rows)
+  pub at' : AreRows s (take row rows) → ⊥

@@ -1,0 +1,21 @@
+//! Two-set inequalities, the bound of a leaf that they give, and packings of triangles.
+//!
+//! The crates above use this: no partition of a state's class has a value above `leaf_bound`, and
+//! `pack` answers a maximal packing of triangles. The definitions stand in `specs/Rows.antt`,
+//! `specs/Faults.antt` and `specs/Packing.antt`.
+#![tactic(auto)]
+
+mod bound;
+mod faults;
+mod near;
+mod packing;
+mod prices;
+mod residual;
+mod row;
+#[cfg(test)]
+mod samples;
+
+pub use bound::leaf_bound;
+pub use packing::pack;
+pub use residual::Residual;
+pub use row::{Leaf, LeafFault, Row};
