@@ -1,7 +1,8 @@
+pub mod Answered
 pub mod Causes
-pub mod Counting
 pub mod Decided
 pub mod FirstTwin
+pub mod PackedBound
 pub mod Printing
 pub mod Prints
-pub mod Ranges
+pub mod WholeState

@@ -8,7 +8,7 @@ use Rattle.std.proofs.lemmas.List.{get_or_append_left}
 use Rattle.clu_pace.specs.Graph.{PaceGraph}
 use Rattle.clu_cli.specs.CriticalCliques.{AreTrueTwins, in_neighbourhood}
 use Rattle.clu_cli.specs.Fingerprints.{AreFingerprints, fingerprint_of, marked}
-use Rattle.clu_cli.proofs.Ranges.{range_first}
+use Rattle.clu_partition.proofs.Ranges.{range_first}
 
 -- a sum, and the marks of the neighbours from w on
 unfoldable pub marked_from : PaceGraph → List ℕ → ℕ → ℕ → ℕ → ℕ

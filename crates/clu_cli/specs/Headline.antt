@@ -7,15 +7,18 @@ use Rattle.clu_partition.specs.Partition.{EachOnce, IsPartition, blocks_of}
 use Rattle.clu_pace.specs.Graph.{PaceGraph}
 use Rattle.clu_pace.specs.Numbers.{graph_names}
 use Rattle.clu_pace.specs.Pace.{IsAccepted}
+use Rattle.clu_objective.specs.Edits.{edits, PosesEdits}
+use Rattle.clu_objective.specs.Problem.{Posed}
 use Rattle.clu_cli.specs.declared.report.Facts.{Facts}
 use Rattle.clu_cli.specs.CriticalCliques.{AreCriticalCliques}
-use Rattle.clu_cli.specs.Edits.{edits}
+use Rattle.clu_cli.specs.PackingBound.{IsPackingBound}
 use Rattle.clu_cli.specs.Report.{report}
 use Rattle.clu_cli.specs.Words.{IsSolve}
 
 -- What is printed for the bytes of a file. They are a text of one graph alone. The report is that of a partition whose
 -- blocks hold each vertex exactly once, and are the critical cliques. The printed value is exactly its number of edits.
--- No partition has fewer edits than the printed bound, which is still 0. The status is 0 exactly where the two are equal.
+-- No partition has fewer edits than the printed bound, which is that of a maximal packing of triangles in the state
+-- without decisions. The status is 0 exactly where the two are equal.
 pub record IsAnswer (bytes printed : List ℕ) (status : ℕ) : Type 0 where
   pub graph : PaceGraph
   pub accepted : IsAccepted bytes graph
@@ -28,7 +31,9 @@ pub record IsAnswer (bytes printed : List ℕ) (status : ℕ) : Type 0 where
   pub vertices : facts.vertices ≡ graph.n
   pub value : facts.value ≡ pos (edits graph labels)
   pub none_better : (others : List ℕ) → IsPartition graph.n others → facts.bound ≤ℤ pos (edits graph others)
-  pub bound : facts.bound ≡ pos 0
+  pub problem : Posed
+  pub poses : PosesEdits graph problem
+  pub bound : IsPackingBound problem facts.bound
   pub text : printed ≡ report facts (graph_names graph) labels
   pub optimal : (status ≡ 0) ↔ (facts.value ≡ facts.bound)
 

@@ -1,7 +1,7 @@
 pub mod CriticalCliques
-pub mod Edits
 pub mod Fingerprints
 pub mod Headline
+pub mod PackingBound
 pub mod Report
 pub mod Status
 pub mod Words

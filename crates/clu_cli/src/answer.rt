@@ -3,9 +3,10 @@ ghost use Rattle.clu_pace.specs.Graph.{PaceGraph};
 ghost use Rattle.clu_pace.specs.Pace.{IsAccepted};
 ghost use Rattle.clu_cli.specs.Headline.{IsAnswer};
 
+use crate::bound::packing_bound;
 use crate::cliques::critical_cliques;
-use crate::edits::count_edits;
 use crate::report::{Facts, report_text};
+use clu_objective::pairs_of_graph;
 use clu_pace::{PaceError, read_pace};
 use std::alloc::Global;
 
@@ -26,12 +27,12 @@ pub fn answer_of(alloc: Global, bytes: &[u8]) -> Result<Answer, PaceError>
         → (graph : PaceGraph) → IsAccepted bytes.now graph → ⊥ }
 {
     let graph = read_pace(alloc, bytes)?;
+    let problem = pairs_of_graph(alloc, &graph)?;
     let partition = critical_cliques(alloc, &graph)?;
-    let value = count_edits(&graph, &partition);
     let facts = Facts {
         vertices: graph.n(),
-        value: i128::from(value),
-        bound: 0,
+        value: problem.printed(partition.value(&problem.pairs)),
+        bound: packing_bound(alloc, &problem)?,
     };
     let text = report_text(alloc, facts, &partition, &graph)?;
     Ok(Answer {

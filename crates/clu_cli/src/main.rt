@@ -6,8 +6,8 @@
 #![tactic(auto)]
 
 mod answer;
+mod bound;
 mod cliques;
-mod edits;
 mod report;
 mod run;
 mod stop;

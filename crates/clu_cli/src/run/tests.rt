@@ -6,7 +6,7 @@ use std::test::Fail;
 const PATH: &str = "p cep 3 2\n1 2\n2 3\n";
 
 const REPORT: &str =
-    "objective edits\nvertices 3\nvalue 2\nbound 0\nscale 1\nverdict gap branchings\nbranchings 0\nblocks 3\nblock 1\nblock 2\nblock 3\n";
+    "objective edits\nvertices 3\nvalue 2\nbound 1\nscale 1\nverdict gap branchings\nbranchings 0\nblocks 3\nblock 1\nblock 2\nblock 3\n";
 
 /// A run over the files `path`, `alone` and `loop`: its words, the numbers of the calls of the folder, of
 /// out and of err that are to fail, and what must come of it.
