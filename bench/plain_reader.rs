@@ -143,10 +143,86 @@ fn count_edits(graph: &Graph, blocks: &[Vec<usize>]) -> usize {
     cut + missing
 }
 
-fn report(n: usize, value: usize, blocks: &[Vec<usize>]) -> String {
-    let verdict = if value == 0 { "optimal" } else { "gap branchings" };
+/// A greedy packing of triangles, with weights as wide as `clu` has them.
+struct Packing {
+    n: usize,
+    /// What is left of the weight of each pair, the smaller vertex first.
+    left: Vec<i128>,
+    /// The multipliers so far.
+    spent: i128,
+}
+
+impl Packing {
+    fn new(graph: &Graph) -> Packing {
+        let n = graph.n;
+        let mut left = vec![-1; n * n];
+        for (u, v) in &graph.edges {
+            left[*u as usize * n + *v as usize] = 1;
+        }
+        Packing { n, left, spent: 0 }
+    }
+
+    /// The later vertices of each whose pair with it has a weight above 0.
+    fn near(&self) -> Vec<Vec<usize>> {
+        let row = |i: usize| (i + 1..self.n).filter(move |k| self.left[i * self.n + k] > 0);
+        (0..self.n).map(|i| row(i).collect()).collect()
+    }
+
+    fn visit(&mut self, i: usize, j: usize, k: usize) {
+        let (ij, ik, jk) = (i * self.n + j, i * self.n + k, j * self.n + k);
+        let (a, b, across) = if self.left[jk] <= 0 {
+            (ij, ik, jk)
+        } else if self.left[ik] <= 0 {
+            (ij, jk, ik)
+        } else {
+            (ik, jk, ij)
+        };
+        let y = self.left[a].min(self.left[b]).min(-self.left[across]);
+        if y > 0 {
+            self.left[a] -= y;
+            self.left[b] -= y;
+            self.left[across] += y;
+            self.spent += y;
+        }
+    }
+
+    /// Visits the vertices of both lists in rising order.
+    fn visit_either(&mut self, i: usize, j: usize, mut first: &[usize], mut second: &[usize]) {
+        while let Some(k) = first.first().into_iter().chain(second.first()).min().copied() {
+            first = &first[usize::from(first.first() == Some(&k))..];
+            second = &second[usize::from(second.first() == Some(&k))..];
+            self.visit(i, j, k);
+        }
+    }
+
+    fn pack(&mut self) {
+        let near = self.near();
+        for i in 0..self.n {
+            let mut later = &near[i][..];
+            for j in i + 1..self.n {
+                later = &later[usize::from(later.first() == Some(&j))..];
+                if self.left[i * self.n + j] > 0 {
+                    self.visit_either(i, j, later, &near[j]);
+                } else {
+                    for k in later {
+                        self.visit(i, j, *k);
+                    }
+                }
+            }
+        }
+    }
+
+    fn bound(mut self, m: usize) -> i128 {
+        self.pack();
+        let open = (0..self.n).flat_map(|i| &self.left[i * self.n + i + 1..(i + 1) * self.n]);
+        m as i128 - self.spent - open.filter(|w| **w > 0).sum::<i128>()
+    }
+}
+
+fn report(n: usize, value: usize, bound: usize, blocks: &[Vec<usize>]) -> String {
+    let verdict = if value == bound { "optimal" } else { "gap branchings" };
     let mut text = format!(
-        "objective edits\nvertices {n}\nvalue {value}\nbound 0\nscale 1\nverdict {verdict}\nbranchings 0\nblocks {}\n",
+        "objective edits\nvertices {n}\nvalue {value}\nbound {bound}\nscale 1\nverdict {verdict}\nbranchings 0\nblocks {}\n",
         blocks.len()
     );
     for block in blocks {
@@ -176,12 +252,13 @@ fn run(words: &[String]) -> Result<u8, Stop> {
     let graph = read_graph(&bytes).ok_or(Stop::Refused)?;
     let blocks = alike_blocks(&graph);
     let value = count_edits(&graph, &blocks);
-    let text = report(graph.n, value, &blocks);
+    let bound = Packing::new(&graph).bound(graph.edges.len()) as usize;
+    let text = report(graph.n, value, bound, &blocks);
     let mut out = io::stdout().lock();
     out.write_all(text.as_bytes())
         .and_then(|()| out.flush())
         .map_err(|_| Stop::WriteFault)?;
-    Ok(u8::from(value != 0))
+    Ok(u8::from(value != bound))
 }
 
 fn main() -> ExitCode {
