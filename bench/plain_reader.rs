@@ -186,26 +186,25 @@ impl Packing {
         }
     }
 
-    /// Visits the vertices of both lists in rising order.
-    fn visit_either(&mut self, i: usize, j: usize, mut first: &[usize], mut second: &[usize]) {
-        while let Some(k) = first.first().into_iter().chain(second.first()).min().copied() {
-            first = &first[usize::from(first.first() == Some(&k))..];
-            second = &second[usize::from(second.first() == Some(&k))..];
-            self.visit(i, j, k);
-        }
+    fn is_above(&self, u: usize, v: usize) -> bool {
+        self.left[u * self.n + v] > 0
     }
 
     fn pack(&mut self) {
         let near = self.near();
         for i in 0..self.n {
-            let mut later = &near[i][..];
             for j in i + 1..self.n {
-                later = &later[usize::from(later.first() == Some(&j))..];
-                if self.left[i * self.n + j] > 0 {
-                    self.visit_either(i, j, later, &near[j]);
+                if self.is_above(i, j) {
+                    for k in j + 1..self.n {
+                        if self.is_above(i, k) != self.is_above(j, k) {
+                            self.visit(i, j, k);
+                        }
+                    }
                 } else {
-                    for k in later {
-                        self.visit(i, j, *k);
+                    for k in &near[j] {
+                        if self.is_above(i, *k) {
+                            self.visit(i, j, *k);
+                        }
                     }
                 }
             }
