@@ -68,7 +68,8 @@ fn uncovered_with<S: Situation>(
     requires member { Contains (S.state state.now).members a }
     requires later { All (Contains (S.state state.now).members) later.now }
     requires differ { All (λ b. a ≢ b) later.now }
-    requires cells { (x z : ℕ) → Contains (S.state state.now).members x → Contains (S.state state.now).members z → unsigned_abs (weight_of prices.now x z) ≤ 2 ^ 120 }
+    requires cells { (x z : ℕ) → Contains (S.state state.now).members x
+        → Contains (S.state state.now).members z → unsigned_abs (weight_of prices.now x z) ≤ 2 ^ 120 }
     requires small { uncovered_with_of (S.state state.now) den prices.now a later.now ≤ℤ pos (2 ^ 121) }
     ensures { pos result ≡ uncovered_with_of (S.state state.now) den prices.now a later.now }
 {
@@ -86,9 +87,12 @@ fn uncovered_with<S: Situation>(
 fn excess<S: Situation>(state: &S, den: u64, prices: &Residual) -> u128
     requires den { den ≤ 2 ^ 32 }
     requires room { (S.state state.now).pairs.n ≤ prices.now.n }
-    requires cells { (x z : ℕ) → Contains (S.state state.now).members x → Contains (S.state state.now).members z → unsigned_abs (weight_of prices.now x z) ≤ 2 ^ 120 }
-    requires small { uncovered_all (S.state state.now) den prices.now (S.state state.now).members ≤ℤ pos (2 ^ 121) }
-    ensures { pos result ≡ uncovered_all (S.state state.now) den prices.now (S.state state.now).members }
+    requires cells { (x z : ℕ) → Contains (S.state state.now).members x
+        → Contains (S.state state.now).members z → unsigned_abs (weight_of prices.now x z) ≤ 2 ^ 120 }
+    requires small { uncovered_all (S.state state.now) den prices.now (S.state state.now).members
+        ≤ℤ pos (2 ^ 121) }
+    ensures { pos result ≡ uncovered_all (S.state state.now) den prices.now
+        (S.state state.now).members }
 {
     let members = state.members();
     let mut sum = 0;
@@ -104,7 +108,8 @@ fn sound_bound<S: Situation>(state: &S, leaf: &Leaf, scratch: &mut Residual) -> 
     requires den { IsDenominator leaf.now.den }
     requires rows { AreRows (S.state state.now) leaf.now.rows.items }
     ensures value { result ≡ leaf_bound_of (S.state state.now) leaf.now.den leaf.now.rows.items }
-    ensures sound { (label : ℕ → ℕ) → InClass (S.state state.now) label → value_on (weight_of (S.state state.now).pairs) label (S.state state.now).members ≤ℤ result }
+    ensures sound { (label : ℕ → ℕ) → InClass (S.state state.now) label
+        → value_on (weight_of (S.state state.now).pairs) label (S.state state.now).members ≤ℤ result }
     ensures room { scratch.new.n ≡ scratch.old.n }
 {
     clear(scratch, state.members());
@@ -125,12 +130,15 @@ pub fn leaf_bound<S: Situation>(
     scratch: &mut Residual,
 ) -> Result<i128, LeafFault>
     requires { (S.state state.now).pairs.n ≤ scratch.old.n }
-    ensures ok { IfOk result (λ bound. bound ≡ leaf_bound_of (S.state state.now) leaf.now.den leaf.now.rows.items) }
-    ensures sound { IfOk result (λ bound. (label : ℕ → ℕ) → InClass (S.state state.now) label → value_on (weight_of (S.state state.now).pairs) label (S.state state.now).members ≤ℤ bound) }
+    ensures ok { IfOk result (λ bound. bound
+        ≡ leaf_bound_of (S.state state.now) leaf.now.den leaf.now.rows.items) }
+    ensures sound { IfOk result (λ bound. (label : ℕ → ℕ) → InClass (S.state state.now) label
+        → value_on (weight_of (S.state state.now).pairs) label (S.state state.now).members ≤ℤ bound) }
     ensures denominator { IfOk result (λ _. IsDenominator leaf.now.den) }
     ensures rows { IfOk result (λ _. AreRows (S.state state.now) leaf.now.rows.items) }
     ensures den_fault { IsErrOf result LeafFault.Den → IsDenominator leaf.now.den → ⊥ }
-    ensures row_fault { (row : ℕ) → IsErrOf result (LeafFault.Row row) → IsDenominator leaf.now.den × IsFirstFault (S.state state.now) leaf.now.rows.items row }
+    ensures row_fault { (row : ℕ) → IsErrOf result (LeafFault.Row row)
+        → IsDenominator leaf.now.den × IsFirstFault (S.state state.now) leaf.now.rows.items row }
     ensures room { scratch.new.n ≡ scratch.old.n }
 {
     if leaf.den == 0 || leaf.den > 1 << 32 {

@@ -11,14 +11,16 @@ use clu_state::Situation;
 const LIMIT: u128 = 1 << 120;
 
 fn is_member(members: &[Vertex], v: Vertex) -> bool
-    requires rising { (i j : ℕ) → i < j → j < length members.now → slice_index members.now i < slice_index members.now j }
+    requires rising { (i j : ℕ) → i < j → j < length members.now
+        → slice_index members.now i < slice_index members.now j }
     ensures { IsTrue result ↔ Contains members.now v }
 {
     members.binary_search_by_key(&v.0, |m| m.0).is_ok()
 }
 
 fn are_members(members: &[Vertex], list: &[Vertex]) -> bool
-    requires rising { (i j : ℕ) → i < j → j < length members.now → slice_index members.now i < slice_index members.now j }
+    requires rising { (i j : ℕ) → i < j → j < length members.now
+        → slice_index members.now i < slice_index members.now j }
     ensures { IsTrue result ↔ All (Contains members.now) list.now }
 {
     for v in list {
@@ -33,7 +35,8 @@ fn are_members(members: &[Vertex], list: &[Vertex]) -> bool
 fn names_alone<S: Situation>(state: &S, v: Vertex, others: &[Vertex]) -> bool
     requires member { Contains (S.state state.now).members v }
     requires members { All (Contains (S.state state.now).members) others.now }
-    ensures { IsTrue result ↔ All (λ w. leader (S.state state.now) v ≢ leader (S.state state.now) w) others.now }
+    ensures { IsTrue result ↔ All (λ w.
+        leader (S.state state.now) v ≢ leader (S.state state.now) w) others.now }
 {
     let group = state.group_of(v);
     for w in others {
@@ -48,7 +51,8 @@ fn names_alone<S: Situation>(state: &S, v: Vertex, others: &[Vertex]) -> bool
 fn names_differ<S: Situation>(state: &S, list: &[Vertex], others: &[Vertex]) -> bool
     requires list { All (Contains (S.state state.now).members) list.now }
     requires others { All (Contains (S.state state.now).members) others.now }
-    ensures holds { IsTrue result → NamesOnce (leader (S.state state.now)) others.now → NamesOnce (leader (S.state state.now)) (list.now ++ others.now) }
+    ensures holds { IsTrue result → NamesOnce (leader (S.state state.now)) others.now
+        → NamesOnce (leader (S.state state.now)) (list.now ++ others.now) }
     ensures needed { NamesOnce (leader (S.state state.now)) (list.now ++ others.now) → IsTrue result }
 {
     for (i, v) in list.iter().enumerate() {
@@ -64,7 +68,8 @@ fn names_differ<S: Situation>(state: &S, list: &[Vertex], others: &[Vertex]) -> 
 
 /// Whether the row has a multiplier and a vertex in each set, and no more vertices than `most`.
 fn has_shape(row: &Row, most: usize) -> bool
-    ensures { IsTrue result ↔ ((0 < length row.now.s) × (0 < length row.now.t) × (0 < row.now.y) × (length row.now.s + length row.now.t ≤ most)) }
+    ensures { IsTrue result ↔ ((0 < length row.now.s) × (0 < length row.now.t) × (0 < row.now.y)
+        × (length row.now.s + length row.now.t ≤ most)) }
 {
     let (s, t) = (row.s.len(), row.t.len());
     s > 0 && t > 0 && row.y > 0 && s <= most && t <= most - s
@@ -94,8 +99,10 @@ fn is_row<S: Situation>(state: &S, row: &Row) -> bool
 
 /// What the row leaves of the room for the rows' worth.
 fn room_after<S: Situation>(state: &S, row: &Row, room: u128) -> Option<u128>
-    ensures some { IfSome result (λ left. IsRow (S.state state.now) row.now × (left + row.now.y * (length row.now.s + length row.now.t) ^ 2 ≡ room)) }
-    ensures none { IsNone result → IsRow (S.state state.now) row.now → room < row.now.y * (length row.now.s + length row.now.t) ^ 2 }
+    ensures some { IfSome result (λ left. IsRow (S.state state.now) row.now
+        × (left + row.now.y * (length row.now.s + length row.now.t) ^ 2 ≡ room)) }
+    ensures none { IsNone result → IsRow (S.state state.now) row.now
+        → room < row.now.y * (length row.now.s + length row.now.t) ^ 2 }
 {
     if !is_row(state, row) {
         return None;

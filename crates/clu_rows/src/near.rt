@@ -30,7 +30,9 @@ impl Places {
 
 /// Puts the place z behind the others where w is above 0.
 fn push_above(near: &mut Vec<usize>, w: i128, z: usize) -> Result<(), AllocError>
-    ensures within { OnOk result ((i count : ℕ) → i < z → z < count → All (λ y. (i < y) × (y < count)) near.old.items → All (λ y. (i < y) × (y < count)) near.new.items) }
+    ensures within { OnOk result ((i count : ℕ) → i < z → z < count
+        → All (λ y. (i < y) × (y < count)) near.old.items
+        → All (λ y. (i < y) × (y < count)) near.new.items) }
     ensures keeps { OnOk result ((y : ℕ) → Contains near.old.items y → Contains near.new.items y) }
     ensures adds { OnOk result (pos 0 <ℤ w → Contains near.new.items z) }
 {

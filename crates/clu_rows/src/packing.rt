@@ -22,7 +22,8 @@ fn multiplier(first: i128, second: i128, third: i128) -> i128
     ensures first { result ≤ℤ first }
     ensures second { result ≤ℤ second }
     ensures third { third <ℤ pos 0 → third ≤ℤ neg_ℤ result }
-    ensures reached { (result ≡ first) ⊎ ((result ≡ second) ⊎ ((third <ℤ pos 0) × (result ≡ neg_ℤ third))) }
+    ensures reached { (result ≡ first) ⊎ ((result ≡ second) ⊎ ((third <ℤ pos 0)
+        × (result ≡ neg_ℤ third))) }
 {
     let most = first.min(second);
     if third < 0 && third > -most {
@@ -69,7 +70,8 @@ fn opposes<S: Situation>(state: &S, groups: &[Vertex], left: &Residual, b: usize
     requires c { c < length groups.now }
     requires bc { b ≢ c }
     requires some { (rows : List TwoSet) × Packed (S.state state.now) groups.now left.now rows }
-    ensures { IsTrue result ↔ ((are_apart (S.state state.now) (slice_index groups.now b) (slice_index groups.now c) ≡ true) ⊎ (weight_of left.now b c <ℤ pos 0)) }
+    ensures { IsTrue result ↔ ((are_apart (S.state state.now) (slice_index groups.now b)
+        (slice_index groups.now c) ≡ true) ⊎ (weight_of left.now b c <ℤ pos 0)) }
 {
     left.get(b, c) < 0 || state.is_apart(groups[b], groups[c])
 }
@@ -95,7 +97,9 @@ fn free_weight<S: Situation>(state: &S, groups: &[Vertex], i: usize, j: usize) -
     requires differ { i ≢ j }
     requires valid { IsState (S.state state.now) }
     requires leaders { groups.now ≡ group_leaders (S.state state.now) }
-    ensures { result ≡ only_if (not (are_apart (S.state state.now) (slice_index groups.now i) (slice_index groups.now j))) (group_weight (S.state state.now) (slice_index groups.now i) (slice_index groups.now j)) }
+    ensures { result ≡ only_if (not (are_apart (S.state state.now) (slice_index groups.now i)
+        (slice_index groups.now j))) (group_weight (S.state state.now) (slice_index groups.now i)
+        (slice_index groups.now j)) }
 {
     let u = groups[i];
     let v = groups[j];
@@ -109,8 +113,12 @@ fn fill_row<S: Situation>(state: &S, groups: &[Vertex], left: &mut Residual, i: 
     requires valid { IsState (S.state state.now) }
     requires leaders { groups.now ≡ group_leaders (S.state state.now) }
     ensures size { left.new.n ≡ left.old.n }
-    ensures row { (z : ℕ) → i < z → z < length groups.now → weight_of left.new i z ≡ only_if (not (are_apart (S.state state.now) (slice_index groups.now i) (slice_index groups.now z))) (group_weight (S.state state.now) (slice_index groups.now i) (slice_index groups.now z)) }
-    ensures others { (x z : ℕ) → x < i → x < z → z < length groups.now → weight_of left.new x z ≡ weight_of left.old x z }
+    ensures row { (z : ℕ) → i < z → z < length groups.now
+        → weight_of left.new i z ≡ only_if (not (are_apart (S.state state.now)
+        (slice_index groups.now i) (slice_index groups.now z))) (group_weight (S.state state.now)
+        (slice_index groups.now i) (slice_index groups.now z)) }
+    ensures others { (x z : ℕ) → x < i → x < z → z < length groups.now
+        → weight_of left.new x z ≡ weight_of left.old x z }
 {
     let _n = left.n();
     for j in i + 1..groups.len() {
@@ -156,7 +164,8 @@ impl Packing {
         requires bc { b ≢ c }
         requires third { weight_of self.old.left b c ≤ℤ pos 0 }
         requires packed { Packed (S.state state.now) groups.now self.old.left self.old.rows.items }
-        ensures packed { OnOk result (Packed (S.state state.now) groups.now self.new.left self.new.rows.items) }
+        ensures packed { OnOk result
+            (Packed (S.state state.now) groups.now self.new.left self.new.rows.items) }
         ensures nearer { OnOk result (Nearer self.old.left self.new.left) }
         ensures settled { OnOk result (Settled (S.state state.now) groups.now self.new.left a b c) }
     {
@@ -193,7 +202,8 @@ impl Packing {
         requires jk { j < k }
         requires k { k < length groups.now }
         requires packed { Packed (S.state state.now) groups.now self.old.left self.old.rows.items }
-        ensures packed { OnOk result (Packed (S.state state.now) groups.now self.new.left self.new.rows.items) }
+        ensures packed { OnOk result
+            (Packed (S.state state.now) groups.now self.new.left self.new.rows.items) }
         ensures nearer { OnOk result (Nearer self.old.left self.new.left) }
         ensures settled { OnOk result (Settled (S.state state.now) groups.now self.new.left i j k) }
     {
@@ -225,7 +235,8 @@ impl Packing {
         requires k { k < length groups.now }
         requires allied { Allied (S.state state.now) groups.now self.old.left i j }
         requires packed { Packed (S.state state.now) groups.now self.old.left self.old.rows.items }
-        ensures packed { OnOk result (Packed (S.state state.now) groups.now self.new.left self.new.rows.items) }
+        ensures packed { OnOk result
+            (Packed (S.state state.now) groups.now self.new.left self.new.rows.items) }
         ensures nearer { OnOk result (Nearer self.old.left self.new.left) }
         ensures settled { OnOk result (Settled (S.state state.now) groups.now self.new.left i j k) }
     {
@@ -248,9 +259,11 @@ impl Packing {
         requires j { j < length groups.now }
         requires allied { Allied (S.state state.now) groups.now self.old.left i j }
         requires packed { Packed (S.state state.now) groups.now self.old.left self.old.rows.items }
-        ensures packed { OnOk result (Packed (S.state state.now) groups.now self.new.left self.new.rows.items) }
+        ensures packed { OnOk result
+            (Packed (S.state state.now) groups.now self.new.left self.new.rows.items) }
         ensures nearer { OnOk result (Nearer self.old.left self.new.left) }
-        ensures settled { OnOk result ((z : ℕ) → j < z → z < length groups.now → Settled (S.state state.now) groups.now self.new.left i j z) }
+        ensures settled { OnOk result ((z : ℕ) → j < z → z < length groups.now
+            → Settled (S.state state.now) groups.now self.new.left i j z) }
     {
         for k in j + 1..groups.len() {
             self.visit_third(alloc, state, groups, i, j, k)?;
@@ -273,7 +286,8 @@ impl Packing {
         requires k { k < length groups.now }
         requires idle { weight_of self.old.left i j ≤ℤ pos 0 }
         requires packed { Packed (S.state state.now) groups.now self.old.left self.old.rows.items }
-        ensures packed { OnOk result (Packed (S.state state.now) groups.now self.new.left self.new.rows.items) }
+        ensures packed { OnOk result
+            (Packed (S.state state.now) groups.now self.new.left self.new.rows.items) }
         ensures nearer { OnOk result (Nearer self.old.left self.new.left) }
         ensures settled { OnOk result (Settled (S.state state.now) groups.now self.new.left i j k) }
     {
@@ -299,9 +313,11 @@ impl Packing {
         requires idle { weight_of self.old.left i j ≤ℤ pos 0 }
         requires near { AreAllNear self.old.left (length groups.now) near.now }
         requires packed { Packed (S.state state.now) groups.now self.old.left self.old.rows.items }
-        ensures packed { OnOk result (Packed (S.state state.now) groups.now self.new.left self.new.rows.items) }
+        ensures packed { OnOk result
+            (Packed (S.state state.now) groups.now self.new.left self.new.rows.items) }
         ensures nearer { OnOk result (Nearer self.old.left self.new.left) }
-        ensures settled { OnOk result ((z : ℕ) → j < z → z < length groups.now → Settled (S.state state.now) groups.now self.new.left i j z) }
+        ensures settled { OnOk result ((z : ℕ) → j < z → z < length groups.now
+            → Settled (S.state state.now) groups.now self.new.left i j z) }
     {
         let thirds = near[j].places();
         for k in thirds {
@@ -325,9 +341,11 @@ impl Packing {
         requires j { j < length groups.now }
         requires near { AreAllNear self.old.left (length groups.now) near.now }
         requires packed { Packed (S.state state.now) groups.now self.old.left self.old.rows.items }
-        ensures packed { OnOk result (Packed (S.state state.now) groups.now self.new.left self.new.rows.items) }
+        ensures packed { OnOk result
+            (Packed (S.state state.now) groups.now self.new.left self.new.rows.items) }
         ensures nearer { OnOk result (Nearer self.old.left self.new.left) }
-        ensures settled { OnOk result ((z : ℕ) → j < z → z < length groups.now → Settled (S.state state.now) groups.now self.new.left i j z) }
+        ensures settled { OnOk result ((z : ℕ) → j < z → z < length groups.now
+            → Settled (S.state state.now) groups.now self.new.left i j z) }
     {
         if self.left.get(i, j) > 0 {
             self.visit_each_third(alloc, state, groups, i, j)?;
@@ -349,9 +367,11 @@ impl Packing {
         requires i { i < length groups.now }
         requires near { AreAllNear self.old.left (length groups.now) near.now }
         requires packed { Packed (S.state state.now) groups.now self.old.left self.old.rows.items }
-        ensures packed { OnOk result (Packed (S.state state.now) groups.now self.new.left self.new.rows.items) }
+        ensures packed { OnOk result
+            (Packed (S.state state.now) groups.now self.new.left self.new.rows.items) }
         ensures nearer { OnOk result (Nearer self.old.left self.new.left) }
-        ensures settled { OnOk result ((y z : ℕ) → i < y → y < z → z < length groups.now → Settled (S.state state.now) groups.now self.new.left i y z) }
+        ensures settled { OnOk result ((y z : ℕ) → i < y → y < z → z < length groups.now
+            → Settled (S.state state.now) groups.now self.new.left i y z) }
     {
         for j in i + 1..groups.len() {
             self.visit_pair(alloc, state, groups, near, i, j)?;
@@ -369,8 +389,10 @@ impl Packing {
     ) -> Result<(), AllocError>
         requires near { AreAllNear self.old.left (length groups.now) near.now }
         requires packed { Packed (S.state state.now) groups.now self.old.left self.old.rows.items }
-        ensures packed { OnOk result (Packed (S.state state.now) groups.now self.new.left self.new.rows.items) }
-        ensures settled { OnOk result ((x y z : ℕ) → x < y → y < z → z < length groups.now → Settled (S.state state.now) groups.now self.new.left x y z) }
+        ensures packed { OnOk result
+            (Packed (S.state state.now) groups.now self.new.left self.new.rows.items) }
+        ensures settled { OnOk result ((x y z : ℕ) → x < y → y < z → z < length groups.now
+            → Settled (S.state state.now) groups.now self.new.left x y z) }
     {
         for i in 0..groups.len() {
             self.visit_first(alloc, state, groups, near, i)?;

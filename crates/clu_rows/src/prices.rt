@@ -17,7 +17,8 @@ fn add_pair(scratch: &mut Residual, a: Vertex, b: Vertex, k: i128)
     requires b { b < scratch.old.n }
     requires small { (unsigned_abs (weight_of scratch.old a b) + unsigned_abs k) < 2 ^ 127 }
     ensures size { scratch.new.n ≡ scratch.old.n }
-    ensures sums { (x z : ℕ) → x < scratch.old.n → z < scratch.old.n → x ≢ z → weight_of scratch.new x z ≡ weight_of scratch.old x z +ℤ only_if (are_pair a b x z) k }
+    ensures sums { (x z : ℕ) → x < scratch.old.n → z < scratch.old.n → x ≢ z
+        → weight_of scratch.new x z ≡ weight_of scratch.old x z +ℤ only_if (are_pair a b x z) k }
 {
     let _n = scratch.n();
     let (u, v) = (a.0 as usize, b.0 as usize);
@@ -31,9 +32,15 @@ fn add_with<S: Situation>(state: &S, scratch: &mut Residual, v: Vertex, others: 
     requires room { (S.state state.now).pairs.n ≤ scratch.old.n }
     requires member { Contains (S.state state.now).members v }
     requires members { All (Contains (S.state state.now).members) others.now }
-    requires small { (x z : ℕ) → Contains (S.state state.now).members x → Contains (S.state state.now).members z → (unsigned_abs (weight_of scratch.old x z) + (length others.now + 1) * unsigned_abs k) < 2 ^ 127 }
+    requires small { (x z : ℕ) → Contains (S.state state.now).members x
+        → Contains (S.state state.now).members z
+        → (unsigned_abs (weight_of scratch.old x z) + (length others.now + 1) * unsigned_abs k)
+        < 2 ^ 127 }
     ensures size { scratch.new.n ≡ scratch.old.n }
-    ensures sums { (x z : ℕ) → Contains (S.state state.now).members x → Contains (S.state state.now).members z → x ≢ z → weight_of scratch.new x z ≡ weight_of scratch.old x z +ℤ total (hit (leader (S.state state.now)) x z k v) others.now }
+    ensures sums { (x z : ℕ) → Contains (S.state state.now).members x
+        → Contains (S.state state.now).members z → x ≢ z
+        → weight_of scratch.new x z ≡ weight_of scratch.old x z
+        +ℤ total (hit (leader (S.state state.now)) x z k v) others.now }
 {
     for w in others {
         add_pair(scratch, state.group_of(v), state.group_of(*w), k);
@@ -52,9 +59,15 @@ fn add_across<S: Situation>(
     requires room { (S.state state.now).pairs.n ≤ scratch.old.n }
     requires first { All (Contains (S.state state.now).members) first.now }
     requires second { All (Contains (S.state state.now).members) second.now }
-    requires small { (x z : ℕ) → Contains (S.state state.now).members x → Contains (S.state state.now).members z → (unsigned_abs (weight_of scratch.old x z) + length first.now * ((length second.now + 1) * unsigned_abs k)) < 2 ^ 127 }
+    requires small { (x z : ℕ) → Contains (S.state state.now).members x
+        → Contains (S.state state.now).members z
+        → (unsigned_abs (weight_of scratch.old x z)
+        + length first.now * ((length second.now + 1) * unsigned_abs k)) < 2 ^ 127 }
     ensures size { scratch.new.n ≡ scratch.old.n }
-    ensures sums { (x z : ℕ) → Contains (S.state state.now).members x → Contains (S.state state.now).members z → x ≢ z → weight_of scratch.new x z ≡ weight_of scratch.old x z +ℤ cross_total (hit (leader (S.state state.now)) x z k) first.now second.now }
+    ensures sums { (x z : ℕ) → Contains (S.state state.now).members x
+        → Contains (S.state state.now).members z → x ≢ z
+        → weight_of scratch.new x z ≡ weight_of scratch.old x z
+        +ℤ cross_total (hit (leader (S.state state.now)) x z k) first.now second.now }
 {
     for v in first {
         add_with(state, scratch, *v, second, k);
@@ -66,9 +79,15 @@ fn add_inside<S: Situation>(state: &S, scratch: &mut Residual, list: &[Vertex], 
     requires valid { IsState (S.state state.now) }
     requires room { (S.state state.now).pairs.n ≤ scratch.old.n }
     requires members { All (Contains (S.state state.now).members) list.now }
-    requires small { (x z : ℕ) → Contains (S.state state.now).members x → Contains (S.state state.now).members z → (unsigned_abs (weight_of scratch.old x z) + length list.now * (length list.now * unsigned_abs k)) < 2 ^ 127 }
+    requires small { (x z : ℕ) → Contains (S.state state.now).members x
+        → Contains (S.state state.now).members z
+        → (unsigned_abs (weight_of scratch.old x z)
+        + length list.now * (length list.now * unsigned_abs k)) < 2 ^ 127 }
     ensures size { scratch.new.n ≡ scratch.old.n }
-    ensures sums { (x z : ℕ) → Contains (S.state state.now).members x → Contains (S.state state.now).members z → x ≢ z → weight_of scratch.new x z ≡ weight_of scratch.old x z +ℤ pair_total (hit (leader (S.state state.now)) x z k) list.now }
+    ensures sums { (x z : ℕ) → Contains (S.state state.now).members x
+        → Contains (S.state state.now).members z → x ≢ z
+        → weight_of scratch.new x z ≡ weight_of scratch.old x z
+        +ℤ pair_total (hit (leader (S.state state.now)) x z k) list.now }
 {
     for (i, v) in list.iter().enumerate() {
         add_with(state, scratch, *v, &list[i + 1..], k);
@@ -81,9 +100,15 @@ fn add_row<S: Situation>(state: &S, scratch: &mut Residual, row: &Row)
     requires room { (S.state state.now).pairs.n ≤ scratch.old.n }
     requires row { IsRow (S.state state.now) row.now }
     requires worth { row.now.y * (length row.now.s + length row.now.t) ^ 2 ≤ 2 ^ 120 }
-    requires small { (x z : ℕ) → Contains (S.state state.now).members x → Contains (S.state state.now).members z → (unsigned_abs (weight_of scratch.old x z) + row.now.y * (length row.now.s + length row.now.t) ^ 2) ≤ 2 ^ 120 }
+    requires small { (x z : ℕ) → Contains (S.state state.now).members x
+        → Contains (S.state state.now).members z
+        → (unsigned_abs (weight_of scratch.old x z)
+        + row.now.y * (length row.now.s + length row.now.t) ^ 2) ≤ 2 ^ 120 }
     ensures size { scratch.new.n ≡ scratch.old.n }
-    ensures sums { (x z : ℕ) → Contains (S.state state.now).members x → Contains (S.state state.now).members z → x ≢ z → weight_of scratch.new x z ≡ weight_of scratch.old x z +ℤ pos row.now.y *ℤ coefficient (leader (S.state state.now)) row.now x z }
+    ensures sums { (x z : ℕ) → Contains (S.state state.now).members x
+        → Contains (S.state state.now).members z → x ≢ z
+        → weight_of scratch.new x z ≡ weight_of scratch.old x z
+        +ℤ pos row.now.y *ℤ coefficient (leader (S.state state.now)) row.now x z }
 {
     let (s, t) = (row.s.vertices(), row.t.vertices());
     let y = row.y as i128;
@@ -97,9 +122,12 @@ pub fn add_rows<S: Situation>(state: &S, scratch: &mut Residual, rows: &[Row])
     requires valid { IsState (S.state state.now) }
     requires room { (S.state state.now).pairs.n ≤ scratch.old.n }
     requires rows { AreRows (S.state state.now) rows.now }
-    requires clear { (x z : ℕ) → Contains (S.state state.now).members x → Contains (S.state state.now).members z → x ≢ z → weight_of scratch.old x z ≡ pos 0 }
+    requires clear { (x z : ℕ) → Contains (S.state state.now).members x
+        → Contains (S.state state.now).members z → x ≢ z → weight_of scratch.old x z ≡ pos 0 }
     ensures size { scratch.new.n ≡ scratch.old.n }
-    ensures sums { (x z : ℕ) → Contains (S.state state.now).members x → Contains (S.state state.now).members z → x ≢ z → weight_of scratch.new x z ≡ priced (leader (S.state state.now)) rows.now x z }
+    ensures sums { (x z : ℕ) → Contains (S.state state.now).members x
+        → Contains (S.state state.now).members z → x ≢ z
+        → weight_of scratch.new x z ≡ priced (leader (S.state state.now)) rows.now x z }
 {
     for row in rows {
         add_row(state, scratch, row);
@@ -111,8 +139,11 @@ fn clear_row(scratch: &mut Residual, members: &[Vertex], i: usize)
     requires below { All (λ v. v < scratch.old.n) members.now }
     requires i { i < length members.now }
     ensures size { scratch.new.n ≡ scratch.old.n }
-    ensures row { (j : ℕ) → i < j → j < length members.now → slice_index members.now i ≢ slice_index members.now j → weight_of scratch.new (slice_index members.now i) (slice_index members.now j) ≡ pos 0 }
-    ensures kept { (x z : ℕ) → x < scratch.old.n → z < scratch.old.n → weight_of scratch.old x z ≡ pos 0 → weight_of scratch.new x z ≡ pos 0 }
+    ensures row { (j : ℕ) → i < j → j < length members.now
+        → slice_index members.now i ≢ slice_index members.now j
+        → weight_of scratch.new (slice_index members.now i) (slice_index members.now j) ≡ pos 0 }
+    ensures kept { (x z : ℕ) → x < scratch.old.n → z < scratch.old.n → weight_of scratch.old x z ≡ pos 0
+        → weight_of scratch.new x z ≡ pos 0 }
 {
     let _n = scratch.n();
     let u = members[i];
@@ -126,7 +157,8 @@ fn clear_row(scratch: &mut Residual, members: &[Vertex], i: usize)
 pub fn clear(scratch: &mut Residual, members: &[Vertex])
     requires below { All (λ v. v < scratch.old.n) members.now }
     ensures size { scratch.new.n ≡ scratch.old.n }
-    ensures clear { (x z : ℕ) → Contains members.now x → Contains members.now z → x ≢ z → weight_of scratch.new x z ≡ pos 0 }
+    ensures clear { (x z : ℕ) → Contains members.now x → Contains members.now z → x ≢ z
+        → weight_of scratch.new x z ≡ pos 0 }
 {
     for i in 0..members.len() {
         clear_row(scratch, members, i);

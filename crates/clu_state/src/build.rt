@@ -73,7 +73,8 @@ fn groups(alloc: Global, start: &Start) -> Result<Vec<Vertex>, AllocError>
 
 /// The place of each member, by its number; 0 for each other one of n vertices.
 fn places(alloc: Global, n: u32, members: &[Vertex]) -> Result<Vec<u32>, AllocError>
-    requires rising { (i j : ℕ) → i < j → j < length members.now → slice_index members.now i < slice_index members.now j }
+    requires rising { (i j : ℕ) → i < j → j < length members.now
+        → slice_index members.now i < slice_index members.now j }
     requires below { All (λ v. v < n) members.now }
     requires few { length members.now ≤ 1000 }
     ensures size { IfOk result (λ list. length list.items ≡ n) }
@@ -110,8 +111,8 @@ fn add_pair(
     requires second { HasHome pairs.now.n weights.old.n group.now place.now v }
     requires room { HasRoom weights.old (size_between pairs.now u v) }
     ensures size { weights.new.n ≡ weights.old.n }
-    ensures sums { GrownBy (λ x z. share (weight_of pairs.now) (home_of group.now place.now) x z u v)
-        weights.old weights.new }
+    ensures sums { GrownBy (λ x z.
+        share (weight_of pairs.now) (home_of group.now place.now) x z u v) weights.old weights.new }
     ensures inside { result ≡ kept (weight_of pairs.now) (home_of group.now place.now) u v }
 {
     let weight = pairs.get(u, v);
@@ -139,9 +140,11 @@ fn add_with(
     requires room { HasRoom weights.old (total (size_between pairs.now u) others.now) }
     requires small { total (size_between pairs.now u) others.now ≤ℤ pos (2 ^ 88) }
     ensures size { weights.new.n ≡ weights.old.n }
-    ensures sums { GrownBy (λ x z. total (share (weight_of pairs.now) (home_of group.now place.now) x z u) others.now)
-        weights.old weights.new }
-    ensures inside { result ≡ total (kept (weight_of pairs.now) (home_of group.now place.now) u) others.now }
+    ensures sums { GrownBy (λ x z.
+        total (share (weight_of pairs.now)
+        (home_of group.now place.now) x z u) others.now) weights.old weights.new }
+    ensures inside { result ≡ total (kept (weight_of pairs.now)
+        (home_of group.now place.now) u) others.now }
 {
     let mut sum = 0;
     for v in others {
@@ -163,9 +166,11 @@ fn add_all(
     requires room { HasRoom weights.old (pair_total (size_between pairs.now) members.now) }
     requires small { pair_total (size_between pairs.now) members.now ≤ℤ pos (2 ^ 88) }
     ensures size { weights.new.n ≡ weights.old.n }
-    ensures sums { GrownBy (λ x z. pair_total (share (weight_of pairs.now) (home_of group.now place.now) x z) members.now)
-        weights.old weights.new }
-    ensures inside { result ≡ pair_total (kept (weight_of pairs.now) (home_of group.now place.now)) members.now }
+    ensures sums { GrownBy (λ x z.
+        pair_total (share (weight_of pairs.now)
+        (home_of group.now place.now) x z) members.now) weights.old weights.new }
+    ensures inside { result ≡ pair_total (kept (weight_of pairs.now)
+        (home_of group.now place.now)) members.now }
 {
     let mut sum = 0;
     for (i, u) in members.iter().enumerate() {

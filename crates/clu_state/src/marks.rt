@@ -61,7 +61,8 @@ impl PairMarks {
         requires low { low < self.old.n }
         requires high { high < self.old.n }
         requires x { x < self.old.n }
-        ensures { self.new ≡ (if is_marked self.old high x then with_mark self.old low x else self.old) }
+        ensures { self.new ≡ (if is_marked self.old high x then with_mark self.old low x
+            else self.old) }
     {
         if self.get(high, x) {
             self.set(low, x);
@@ -74,8 +75,10 @@ impl PairMarks {
         requires high { high < self.old.n }
         requires differ { low ≢ high }
         ensures size { self.new.n ≡ self.old.n }
-        ensures joined { (j : ℕ) → j < self.old.n → j ≢ low → is_marked self.new low j ≡ (is_marked self.old low j || is_marked self.old high j) }
-        ensures others { (i j : ℕ) → i < self.old.n → j < self.old.n → i ≢ low → j ≢ low → is_marked self.new i j ≡ is_marked self.old i j }
+        ensures joined { (j : ℕ) → j < self.old.n → j ≢ low
+            → is_marked self.new low j ≡ (is_marked self.old low j || is_marked self.old high j) }
+        ensures others { (i j : ℕ) → i < self.old.n → j < self.old.n → i ≢ low → j ≢ low
+            → is_marked self.new i j ≡ is_marked self.old i j }
     {
         for j in 0..self.n {
             self.copy(low, high, Vertex(j));

@@ -137,9 +137,13 @@ fn join(
     u: Vertex,
     v: Vertex,
 ) -> i128
-    requires some { (s : State) × (fixed : ℤ) × (s.members ≡ members.now) × Agrees s group.old place.now weights.old apart.old fixed × CanDecide s (Decision.Together u v) }
-    ensures { (s : State) (fixed : ℤ) → s.members ≡ members.now → Agrees s group.old place.now weights.old apart.old fixed → CanDecide s (Decision.Together u v)
-        → Agrees (decided s (Decision.Together u v)) group.new place.now weights.new apart.new (fixed +ℤ result) }
+    requires some { (s : State) × (fixed : ℤ) × (s.members ≡ members.now)
+        × Agrees s group.old place.now weights.old apart.old fixed
+        × CanDecide s (Decision.Together u v) }
+    ensures { (s : State) (fixed : ℤ) → s.members ≡ members.now
+        → Agrees s group.old place.now weights.old apart.old fixed → CanDecide s (Decision.Together u v)
+        → Agrees (decided s (Decision.Together u v)) group.new place.now weights.new apart.new (fixed
+        +ℤ result) }
 {
     let low = lower_leader(group, u, v);
     let high = higher_leader(group, u, v);
@@ -154,8 +158,10 @@ fn join(
 
 /// Marks the groups of `u` and `v` as apart.
 fn separate(place: &[u32], group: &[Vertex], apart: &mut PairMarks, u: Vertex, v: Vertex)
-    requires some { (s : State) × (weights : Pairs) × (fixed : ℤ) × Agrees s group.now place.now weights apart.old fixed × CanDecide s (Decision.Apart u v) }
-    ensures { (s : State) (weights : Pairs) (fixed : ℤ) → Agrees s group.now place.now weights apart.old fixed → CanDecide s (Decision.Apart u v)
+    requires some { (s : State) × (weights : Pairs) × (fixed : ℤ)
+        × Agrees s group.now place.now weights apart.old fixed × CanDecide s (Decision.Apart u v) }
+    ensures { (s : State) (weights : Pairs) (fixed : ℤ)
+        → Agrees s group.now place.now weights apart.old fixed → CanDecide s (Decision.Apart u v)
         → Agrees (decided s (Decision.Apart u v)) group.now place.now weights apart.new fixed }
 {
     let p = home(group, place, u);
@@ -166,8 +172,10 @@ fn separate(place: &[u32], group: &[Vertex], apart: &mut PairMarks, u: Vertex, v
 /// The members of the group `high` go over to `low`.
 fn relabel(members: &[Vertex], group: &mut [Vertex], low: Vertex, high: Vertex)
     requires below { All (λ v. v < length group.old) members.now }
-    requires whole { (v : ℕ) → v < length group.old → slice_index group.old v ≡ high → Contains members.now v }
-    ensures { EachIndex group.new (λ k. slice_index group.new k ≡ (if slice_index group.old k == high then low else slice_index group.old k)) }
+    requires whole { (v : ℕ) → v < length group.old → slice_index group.old v ≡ high
+        → Contains members.now v }
+    ensures { EachIndex group.new (λ k. slice_index group.new k
+        ≡ (if slice_index group.old k == high then low else slice_index group.old k)) }
 {
     for v in members {
         take_over(group, *v, low, high);
@@ -177,7 +185,8 @@ fn relabel(members: &[Vertex], group: &mut [Vertex], low: Vertex, high: Vertex)
 /// Takes v over to `low` where its group is `high`.
 fn take_over(group: &mut [Vertex], v: Vertex, low: Vertex, high: Vertex)
     requires { v < length group.old }
-    ensures { group.new ≡ (if slice_index group.old v == high then slice_set group.old v low else group.old) }
+    ensures { group.new ≡ (if slice_index group.old v == high then slice_set group.old v low
+        else group.old) }
 {
     let i = v.0 as usize;
     if group[i] == high {
@@ -191,8 +200,10 @@ fn add_weight(weights: &mut PairTable, low: Vertex, high: Vertex, x: Vertex)
     requires high { high < weights.old.n }
     requires x { x < weights.old.n }
     requires differ { low ≢ x }
-    requires small { unsigned_abs (weight_of weights.old low x +ℤ weight_of weights.old high x) ≤ 2 ^ 88 }
-    ensures changed { weights.new ≡ with_weight weights.old low x (weight_of weights.old low x +ℤ weight_of weights.old high x) }
+    requires small { unsigned_abs (weight_of weights.old low x +ℤ weight_of weights.old high x)
+        ≤ 2 ^ 88 }
+    ensures changed { weights.new ≡ with_weight weights.old low x (weight_of weights.old low x
+        +ℤ weight_of weights.old high x) }
     ensures table { IsTable weights.old }
 {
     let first = weights.get(low, x);
@@ -223,12 +234,15 @@ fn merge_weights(
     requires low { low < length members.now }
     requires high { high < length members.now }
     requires differ { low ≢ high }
-    requires small { (j : ℕ) → j < length members.now → j ≢ low → j ≢ high → slice_index group.now (slice_index members.now j) ≡ slice_index members.now j
+    requires small { (j : ℕ) → j < length members.now → j ≢ low → j ≢ high
+        → slice_index group.now (slice_index members.now j) ≡ slice_index members.now j
         → unsigned_abs (weight_of weights.old low j +ℤ weight_of weights.old high j) ≤ 2 ^ 88 }
     ensures size { weights.new.n ≡ weights.old.n }
-    ensures sums { (j : ℕ) → j < length members.now → j ≢ low → j ≢ high → slice_index group.now (slice_index members.now j) ≡ slice_index members.now j
+    ensures sums { (j : ℕ) → j < length members.now → j ≢ low → j ≢ high
+        → slice_index group.now (slice_index members.now j) ≡ slice_index members.now j
         → weight_of weights.new low j ≡ weight_of weights.old low j +ℤ weight_of weights.old high j }
-    ensures others { (i j : ℕ) → i < length members.now → j < length members.now → i ≢ low → j ≢ low → weight_of weights.new i j ≡ weight_of weights.old i j }
+    ensures others { (i j : ℕ) → i < length members.now → j < length members.now → i ≢ low → j ≢ low
+        → weight_of weights.new i j ≡ weight_of weights.old i j }
 {
     for (j, v) in members.iter().enumerate() {
         let x = Vertex(j as u32);

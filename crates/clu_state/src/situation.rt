@@ -90,7 +90,8 @@ fn push_free<S: Situation>(
     requires first { Contains (S.state state.now).members a }
     requires members { All (Contains (S.state state.now).members) later.now }
     requires differ { All (λ b. leader (S.state state.now) a ≢ leader (S.state state.now) b) later.now }
-    ensures { OnOk result (pairs.new.items ≡ pairs.old.items ++ free_with (S.state state.now) a later.now) }
+    ensures { OnOk result (pairs.new.items
+        ≡ pairs.old.items ++ free_with (S.state state.now) a later.now) }
 {
     for b in later {
         if !state.is_apart(a, *b) {
