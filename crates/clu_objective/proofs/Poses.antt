@@ -3,7 +3,7 @@ use Rattle.std.proofs.Common.{◌≡◌, ℕ, suc, ℤ, pos, negsuc, ◌+ℤ◌,
 use Rattle.std.proofs.lemmas.Int.{ints}
 use Rattle.std.proofs.lemmas.List.FromFn.{length-range_with_len}
 use Rattle.clu_partition.specs.Partition.{below}
-use Rattle.clu_partition.specs.Pairs.{Pairs, weight_of, total_of}
+use Rattle.clu_partition.specs.Pairs.{Pairs, weight_of, total_of, IsTable}
 use Rattle.clu_partition.specs.Sums.{total, pair_total}
 use Rattle.clu_partition.proofs.RangeLaws.{each_range, rising_range}
 use Rattle.clu_pace.specs.Graph.{PaceGraph, are_adjacent, is_edge}
@@ -12,7 +12,7 @@ use Rattle.clu_objective.specs.Problem.{Posed, IsPosed}
 use Rattle.clu_objective.specs.declared.objective.Objective.TheVariants.{Edits}
 use Rattle.clu_objective.proofs.Counts.{pair_cong_rising}
 use Rattle.clu_partition.proofs.SumLaws.{total_ones}
-use Rattle.clu_partition.proofs.TableLaws.{weight_sym}
+use Rattle.clu_partition.proofs.TableLaws.{weight_sym, same_tables}
 use Rattle.std.proofs.lemmas.Bool.{cases_order}
 
 edge_turned : (graph : PaceGraph) (u v : ℕ) → edge_weight graph u v ≡ edge_weight graph v u
@@ -53,10 +53,12 @@ units_small pairs f small units =
 abbrev pub edit_problem : Pairs → ℤ → Posed
 edit_problem pairs base = record { objective = Edits; pairs = pairs; base = base; factor = negsuc 0; scale = 1 }
 
-module _ (graph : PaceGraph) (pairs : Pairs) (base : ℤ) (size : pairs.n ≡ graph.n) (weights : (x z : ℕ) → x < z → z < graph.n → weight_of pairs x z ≡ edge_weight graph x z) where
+module _ (graph : PaceGraph) (pairs : Pairs) (base : ℤ) (table : IsTable pairs) (size : pairs.n ≡ graph.n)
+    (weights : (x z : ℕ) → x < z → z < graph.n → weight_of pairs x z ≡ edge_weight graph x z) where
   pub poses : base ≡ pos (length graph.edges) → PosesEdits graph (edit_problem pairs base)
   poses is = record {
     objective = refl;
+    table = table;
     vertices = size;
     weights = both_orders pairs graph.n (edge_weight graph) (edge_turned graph) weights;
     base = is;
@@ -64,9 +66,46 @@ module _ (graph : PaceGraph) (pairs : Pairs) (base : ℤ) (size : pairs.n ≡ gr
     scale = refl;
   }
 
-  pub posed : pairs.n ≤ 1000 → unsigned_abs base ≤ 2 ^ 89 → IsPosed (edit_problem pairs base)
-  posed small few = record {
-    total = units_small pairs (edge_weight graph) small (λ x z order l. ap unsigned_abs (weights x z order (omega (arith, l, size))) ∙ unit_size (are_adjacent graph.edges x z));
+  pub posed : unsigned_abs base ≤ 2 ^ 89 → IsPosed (edit_problem pairs base)
+  posed few = record {
+    table = table;
+    total = units_small pairs (edge_weight graph) table.size (λ x z order l. ap unsigned_abs (weights x z order (omega (arith, l, size))) ∙ unit_size (are_adjacent graph.edges x z));
     base = few;
     factor = refl;
   }
+
+-- a graph has one problem of cluster editing
+pub one_problem : (graph : PaceGraph) (p q : Posed) → PosesEdits graph p → PosesEdits graph q → p ≡ q
+one_problem graph p q first second = λ i. record {
+  objective = objective i;
+  pairs = pairs i;
+  base = base i;
+  factor = factor i;
+  scale = scale i;
+}
+  where
+    size : p.pairs.n ≡ q.pairs.n
+    size = first.vertices ∙ sym second.vertices
+
+    same : (x z : ℕ) → x < z → z < p.pairs.n → weight_of p.pairs x z ≡ weight_of q.pairs x z
+    same x z l h =
+        let n = first.vertices in
+        let low : x < graph.n = omega (arith, l, h, n) in
+        let high : z < graph.n = omega (arith, h, n) in
+        let differ : x ≢ z = λ e. omega (arith, e, l) in
+        first.weights x z low high differ ∙ sym (second.weights x z low high differ)
+
+    objective : p.objective ≡ q.objective
+    objective = first.objective ∙ sym second.objective
+
+    pairs : p.pairs ≡ q.pairs
+    pairs = same_tables p.pairs q.pairs first.table second.table size same
+
+    base : p.base ≡ q.base
+    base = first.base ∙ sym second.base
+
+    factor : p.factor ≡ q.factor
+    factor = first.factor ∙ sym second.factor
+
+    scale : p.scale ≡ q.scale
+    scale = first.scale ∙ sym second.scale

@@ -1,6 +1,6 @@
 -- Cluster editing: how many pairs must change to turn a graph into the cliques of a partition.
 use Rattle.std.specs.Prelude.{◌≡◌, ◌≢◌, ℕ, ℤ, pos, negsuc, ◌+◌, ◌<◌, ◌&&◌, Bool, List, [], ◌∷◌, length, not, count_by, if◌then◌else◌, slice_index}
-use Rattle.clu_partition.specs.Pairs.{weight_of}
+use Rattle.clu_partition.specs.Pairs.{weight_of, IsTable}
 use Rattle.clu_partition.specs.Partition.{below, share_block}
 use Rattle.clu_partition.specs.Values.{value_on}
 use Rattle.clu_pace.specs.Graph.{PaceGraph, are_adjacent}
@@ -32,6 +32,7 @@ edge_weight graph u v = if are_adjacent graph.edges u v then pos 1 else negsuc 0
 -- the problem of cluster editing on a graph
 pub record PosesEdits (graph : PaceGraph) (problem : Posed) : Type 0 where
   pub objective : problem.objective ≡ Edits
+  pub table : IsTable problem.pairs
   pub vertices : problem.pairs.n ≡ graph.n
   pub weights : (u v : ℕ) → u < graph.n → v < graph.n → u ≢ v → weight_of problem.pairs u v ≡ edge_weight graph u v
   pub base : problem.base ≡ pos (length graph.edges)

@@ -1,6 +1,6 @@
 -- A problem of clustering: pair weights, and how the objective of a partition comes from the sum of the weights inside blocks.
 use Rattle.std.specs.Prelude.{◌≡◌, ◌⊎◌, ℕ, ℤ, pos, negsuc, ◌≤◌, ◌≤ℤ◌, ◌+ℤ◌, ◌*ℤ◌, ◌^◌, unsigned_abs}
-use Rattle.clu_partition.specs.Pairs.{Pairs, total_of}
+use Rattle.clu_partition.specs.Pairs.{Pairs, total_of, IsTable}
 use Rattle.clu_objective.specs.declared.objective.Objective.{Objective}
 use Rattle.clu_objective.specs.declared.objective.Objective.TheVariants.{Edits, Agreement, Modularity}
 
@@ -26,8 +26,9 @@ HasFactor Edits factor = factor ≡ negsuc 0
 HasFactor Agreement factor = (factor ≡ pos 1) ⊎ (factor ≡ pos 2)
 HasFactor Modularity factor = (factor ≡ pos 1) ⊎ (factor ≡ pos 2)
 
--- the sizes that keep each printed number far within 128 bits, and the objective's factor
+-- the table, the sizes that keep each printed number far within 128 bits, and the objective's factor
 pub record IsPosed (problem : Posed) : Type 0 where
+  pub table : IsTable problem.pairs
   pub total : total_of problem.pairs ≤ℤ pos (2 ^ 88)
   pub base : unsigned_abs problem.base ≤ 2 ^ 89
   pub factor : HasFactor problem.objective problem.factor

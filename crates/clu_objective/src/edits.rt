@@ -1,5 +1,5 @@
 ghost use Rattle.std.specs.Prelude.{◌≡◌, ◌<◌, ◌≤◌, ◌^◌, ℕ, IfOk, length};
-ghost use Rattle.clu_partition.specs.Pairs.{weight_of};
+ghost use Rattle.clu_partition.specs.Pairs.{weight_of, IsTable};
 ghost use Rattle.clu_objective.specs.Edits.{edge_weight, PosesEdits, PrintsEdits};
 
 use crate::{Objective, Problem};
@@ -33,14 +33,13 @@ fn count(edges: &[(Vertex, Vertex)]) -> usize
 
 /// The table of a graph's edges.
 fn weigh_pairs(alloc: Global, graph: &Graph) -> Result<PairTable, AllocError>
+    ensures table { IfOk result (λ pairs. IsTable pairs) }
     ensures size { IfOk result (λ pairs. pairs.n ≡ graph.now.n) }
-    ensures small { IfOk result (λ pairs. pairs.n ≤ 1000) }
     ensures weights { IfOk result (λ pairs. (x z : ℕ) → x < z → z < graph.now.n
         → weight_of pairs x z ≡ edge_weight graph.now x z) }
 {
-    let n = graph.n();
-    let mut pairs = PairTable::new(alloc, n)?;
-    for u in 0..n {
+    let mut pairs = PairTable::new(alloc, graph.n())?;
+    for u in 0..pairs.n() {
         weigh_row(graph, &mut pairs, u);
     }
     Ok(pairs)
@@ -50,6 +49,7 @@ fn weigh_pairs(alloc: Global, graph: &Graph) -> Result<PairTable, AllocError>
 fn weigh_row(graph: &Graph, pairs: &mut PairTable, u: u32)
     requires size { pairs.old.n ≡ graph.now.n }
     requires within { u < graph.now.n }
+    ensures table { IsTable pairs.new }
     ensures size { pairs.new.n ≡ pairs.old.n }
     ensures row { (z : ℕ) → u < z → z < graph.now.n
         → weight_of pairs.new u z ≡ edge_weight graph.now u z }

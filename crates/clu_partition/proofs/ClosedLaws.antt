@@ -1,5 +1,6 @@
 -- Laws of closed rules.
-use Rattle.std.proofs.Common.{slice_index, ◌≡◌, ℕ, ◌<◌, List, [], length, get_or, ap, ◌∙◌, arith}
+use Rattle.std.proofs.Common.{slice_index, ◌≡◌, ℕ, ◌<◌, List, [], length, get_or, sym, ap, ◌∙◌, arith}
+use Rattle.std.proofs.lemmas.List.{same_lists, get_or_default}
 use Rattle.clu_partition.specs.Closed.{Closed, IsClosed, IsOpen, IsPermitted}
 use Rattle.clu_partition.specs.Partition.{below}
 use Rattle.clu_partition.proofs.Ranges.{below_at, below_size}
@@ -36,3 +37,20 @@ own_permitted c closed = record {
       let less = closed.ordered k d at in
       omega (arith, same, least.0, least.1, less);
 }
+
+-- there is one value of rules that require and forbid nothing
+pub one_open : (n : ℕ) (c d : Closed) → IsOpen n c → IsOpen n d → c ≡ d
+one_open n c d first second = together c.group d.group c.forbidden d.forbidden
+    (same_lists c.group d.group (first.size ∙ sym second.size) at)
+    (first.none_forbidden ∙ sym second.none_forbidden)
+  where
+    together : (g h : List ℕ) (f k : List (ℕ × ℕ)) → g ≡ h → f ≡ k
+        → ◌≡◌ {A = Closed} (record { group = g; forbidden = f }) (record { group = h; forbidden = k })
+    together g h f k p q = λ i. record { group = p i; forbidden = q i }
+
+    at : (v e : ℕ) → v < length c.group → get_or c.group v e ≡ get_or d.group v e
+    at v e l =
+        let s = first.size in
+        let t = second.size in
+        get_or_default c.group v e 0 l ∙ first.alone v (omega (arith, l, s))
+        ∙ sym (second.alone v (omega (arith, l, s))) ∙ get_or_default d.group v 0 e (omega (arith, l, s, t))

@@ -16,3 +16,4 @@ pub mod ClosedLaws
 pub mod PairWalk
 pub mod PlaceLaws
 pub mod SearchLaws
+pub mod PartLaws

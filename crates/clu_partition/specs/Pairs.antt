@@ -1,5 +1,5 @@
 -- A table of pair weights: one signed number for each pair of two of n vertices.
-use Rattle.std.specs.Prelude.{◌≡◌, ℕ, ℤ, pos, ◌+◌, ◌*◌, ◌≤◌, ◌^◌, min, max, List, length, Bool, slice_index_or, slice_set, if◌then◌else◌, ◌==◌, ◌&&◌, ◌||◌, unsigned_abs, All}
+use Rattle.std.specs.Prelude.{◌≡◌, ℕ, ℤ, pos, ◌+◌, ◌*◌, ◌<◌, ◌≤◌, ◌^◌, min, max, List, length, Bool, slice_index_or, slice_set, if◌then◌else◌, ◌==◌, ◌&&◌, ◌||◌, unsigned_abs, All}
 use Rattle.clu_partition.specs.Partition.{below}
 use Rattle.clu_partition.specs.Sums.{pair_total}
 
@@ -27,8 +27,9 @@ with_weight t u v w = record { n = t.n; weights = slice_set t.weights (place t.n
 abbrev pub total_of : Pairs → ℤ
 total_of t = pair_total (λ u v. pos (unsigned_abs (weight_of t u v))) (below t.n)
 
--- a place for each pair, and no weight past 2 ^ 88
+-- a place for each pair, no weight past 2 ^ 88, and 0 at the places of no pair, on the diagonal and below it
 pub record IsTable (t : Pairs) : Type 0 where
   pub size : t.n ≤ 1000
   pub places : length t.weights ≡ t.n * t.n
   pub small : All (λ w. unsigned_abs w ≤ 2 ^ 88) t.weights
+  pub unused : (x z : ℕ) → z ≤ x → x < t.n → slice_index_or t.weights (x * t.n + z) (pos 0) ≡ pos 0

@@ -8,17 +8,17 @@
 //! `Names.antt`.
 #![tactic(auto)]
 
-mod list;
 mod names;
 mod partition;
+mod seq;
 mod start;
 mod sums;
 mod table;
 mod vertex;
 
-pub use list::VertexList;
 pub use names::{Name, Names};
 pub use partition::Partition;
+pub use seq::Seq;
 pub use start::Start;
 pub use table::{PairTable, place};
-pub use vertex::Vertex;
+pub use vertex::{Vertex, all_vertices};

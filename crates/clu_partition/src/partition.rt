@@ -6,7 +6,7 @@ ghost use Rattle.clu_partition.specs.Partition.{below, EachOnce, IsPartition, Sa
 ghost use Rattle.clu_partition.specs.Placing.{IsApart, Places};
 
 use crate::sums::pair_sum;
-use crate::{PairTable, Vertex, VertexList};
+use crate::{PairTable, Seq, Vertex};
 use std::alloc::{AllocError, Global};
 use std::marker::Model;
 
@@ -67,7 +67,7 @@ impl Partition {
 
     /// The blocks in the order of their labels, the vertices of each rising.
     #[tactic(auto, using(crate::proofs::Blocks::divided_none, crate::proofs::Blocks::divided_more, crate::proofs::Blocks::divided_all, crate::proofs::Blocks::label_below))]
-    pub fn blocks(&self, alloc: Global) -> Result<Vec<VertexList>, AllocError>
+    pub fn blocks(&self, alloc: Global) -> Result<Vec<Seq<Vertex>>, AllocError>
         ensures { IfOk result (λ blocks. blocks.items ≡ blocks_of self.now) }
     {
         let mut blocks = empty_blocks(alloc, self.count as usize)?;
@@ -137,12 +137,12 @@ impl Partition {
     }
 }
 
-fn empty_blocks(alloc: Global, count: usize) -> Result<Vec<VertexList>, AllocError>
+fn empty_blocks(alloc: Global, count: usize) -> Result<Vec<Seq<Vertex>>, AllocError>
     ensures { IfOk result (λ blocks. blocks.items ≡ replicate count []) }
 {
     let mut blocks = Vec::with_capacity(alloc, count)?;
     for _ in 0..count {
-        blocks.push(VertexList::new(alloc))?;
+        blocks.push(Seq::new(alloc))?;
     }
     Ok(blocks)
 }
@@ -187,8 +187,8 @@ mod tests {
         let blocks = partition.blocks(alloc)?;
         assert_eq!(rt; blocks.len(), 2);
         let first = [Vertex(0), Vertex(1), Vertex(3)];
-        assert_eq!(rt; blocks[0].vertices(), first.as_slice());
-        assert_eq!(rt; blocks[1].vertices(), [Vertex(2)].as_slice());
+        assert_eq!(rt; blocks[0].as_slice(), first.as_slice());
+        assert_eq!(rt; blocks[1].as_slice(), [Vertex(2)].as_slice());
         Ok(())
     }
 

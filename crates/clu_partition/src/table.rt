@@ -84,6 +84,7 @@ impl PairTable {
         requires small { unsigned_abs w ≤ 2 ^ 88 }
         ensures changed { self.new ≡ with_weight self.old u v w }
         ensures table { IsTable self.old }
+        ensures kept { IsTable self.new }
     {
         let i = place(self.n, u, v);
         self.weights[i] = w;

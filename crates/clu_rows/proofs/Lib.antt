@@ -17,4 +17,4 @@ pub mod PackSizes
 pub mod Thirds
 mod FaultLaws
 mod RowLaws
-mod BoundLaws
+pub mod BoundLaws

@@ -106,15 +106,15 @@ fn excess<S: Situation>(state: &S, den: u64, prices: &Residual) -> u128
 fn sound_bound<S: Situation>(state: &S, leaf: &Leaf, scratch: &mut Residual) -> i128
     requires room { (S.state state.now).pairs.n ≤ scratch.old.n }
     requires den { IsDenominator leaf.now.den }
-    requires rows { AreRows (S.state state.now) leaf.now.rows.items }
-    ensures value { result ≡ leaf_bound_of (S.state state.now) leaf.now.den leaf.now.rows.items }
+    requires rows { AreRows (S.state state.now) leaf.now.rows }
+    ensures value { result ≡ leaf_bound_of (S.state state.now) leaf.now.den leaf.now.rows }
     ensures sound { (label : ℕ → ℕ) → InClass (S.state state.now) label
         → value_on (weight_of (S.state state.now).pairs) label (S.state state.now).members ≤ℤ result }
     ensures room { scratch.new.n ≡ scratch.old.n }
 {
     clear(scratch, state.members());
-    add_rows(state, scratch, &leaf.rows);
-    let covered = row_limit(&leaf.rows);
+    add_rows(state, scratch, leaf.rows.as_slice());
+    let covered = row_limit(leaf.rows.as_slice());
     let left = excess(state, leaf.den, scratch);
     state.fixed_value() + ((covered + left) / leaf.den as u128) as i128
 }
@@ -131,20 +131,20 @@ pub fn leaf_bound<S: Situation>(
 ) -> Result<i128, LeafFault>
     requires { (S.state state.now).pairs.n ≤ scratch.old.n }
     ensures ok { IfOk result (λ bound. bound
-        ≡ leaf_bound_of (S.state state.now) leaf.now.den leaf.now.rows.items) }
+        ≡ leaf_bound_of (S.state state.now) leaf.now.den leaf.now.rows) }
     ensures sound { IfOk result (λ bound. (label : ℕ → ℕ) → InClass (S.state state.now) label
         → value_on (weight_of (S.state state.now).pairs) label (S.state state.now).members ≤ℤ bound) }
     ensures denominator { IfOk result (λ _. IsDenominator leaf.now.den) }
-    ensures rows { IfOk result (λ _. AreRows (S.state state.now) leaf.now.rows.items) }
+    ensures rows { IfOk result (λ _. AreRows (S.state state.now) leaf.now.rows) }
     ensures den_fault { IsErrOf result LeafFault.Den → IsDenominator leaf.now.den → ⊥ }
     ensures row_fault { (row : ℕ) → IsErrOf result (LeafFault.Row row)
-        → IsDenominator leaf.now.den × IsFirstFault (S.state state.now) leaf.now.rows.items row }
+        → IsDenominator leaf.now.den × IsFirstFault (S.state state.now) leaf.now.rows row }
     ensures room { scratch.new.n ≡ scratch.old.n }
 {
     if leaf.den == 0 || leaf.den > 1 << 32 {
         return Err(LeafFault::Den);
     }
-    if let Some(row) = first_fault(state, &leaf.rows) {
+    if let Some(row) = first_fault(state, leaf.rows.as_slice()) {
         return Err(LeafFault::Row { row });
     }
     Ok(sound_bound(state, leaf, scratch))

@@ -10,7 +10,8 @@ use clu_state::Situation;
 /// numbers of vertices.
 const LIMIT: u128 = 1 << 120;
 
-fn is_member(members: &[Vertex], v: Vertex) -> bool
+/// Whether the vertex is one of the members, which rise.
+pub fn is_member(members: &[Vertex], v: Vertex) -> bool
     requires rising { (i j : ℕ) → i < j → j < length members.now
         → slice_index members.now i < slice_index members.now j }
     ensures { IsTrue result ↔ Contains members.now v }
@@ -84,7 +85,7 @@ fn is_row<S: Situation>(state: &S, row: &Row) -> bool
     if !has_shape(row, members.len()) {
         return false;
     }
-    let (s, t) = (row.s.vertices(), row.t.vertices());
+    let (s, t) = (row.s.as_slice(), row.t.as_slice());
     if !are_members(members, s) {
         return false;
     }

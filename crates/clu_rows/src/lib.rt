@@ -16,6 +16,7 @@ mod row;
 mod samples;
 
 pub use bound::leaf_bound;
+pub use faults::is_member;
 pub use packing::pack;
 pub use residual::Residual;
 pub use row::{Leaf, LeafFault, Row};

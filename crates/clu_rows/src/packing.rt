@@ -10,7 +10,7 @@ ghost use Rattle.clu_rows.specs.Table.{Packed, Changed, Nearer, Stuck, Settled, 
 use crate::near::{Places, near_lists};
 use crate::residual::Residual;
 use crate::row::{Leaf, Row, triangle};
-use clu_partition::Vertex;
+use clu_partition::{Seq, Vertex};
 use clu_state::Situation;
 use std::alloc::{AllocError, Global};
 
@@ -142,7 +142,7 @@ fn fill<S: Situation>(state: &S, groups: &[Vertex], left: &mut Residual)
 #[derive(Drop)]
 struct Packing {
     left: Residual,
-    rows: Vec<Row>,
+    rows: Seq<Row>,
 }
 
 impl Packing {
@@ -163,9 +163,9 @@ impl Packing {
         requires ac { a ≢ c }
         requires bc { b ≢ c }
         requires third { weight_of self.old.left b c ≤ℤ pos 0 }
-        requires packed { Packed (S.state state.now) groups.now self.old.left self.old.rows.items }
+        requires packed { Packed (S.state state.now) groups.now self.old.left self.old.rows }
         ensures packed { OnOk result
-            (Packed (S.state state.now) groups.now self.new.left self.new.rows.items) }
+            (Packed (S.state state.now) groups.now self.new.left self.new.rows) }
         ensures nearer { OnOk result (Nearer self.old.left self.new.left) }
         ensures settled { OnOk result (Settled (S.state state.now) groups.now self.new.left a b c) }
     {
@@ -201,9 +201,9 @@ impl Packing {
         requires ij { i < j }
         requires jk { j < k }
         requires k { k < length groups.now }
-        requires packed { Packed (S.state state.now) groups.now self.old.left self.old.rows.items }
+        requires packed { Packed (S.state state.now) groups.now self.old.left self.old.rows }
         ensures packed { OnOk result
-            (Packed (S.state state.now) groups.now self.new.left self.new.rows.items) }
+            (Packed (S.state state.now) groups.now self.new.left self.new.rows) }
         ensures nearer { OnOk result (Nearer self.old.left self.new.left) }
         ensures settled { OnOk result (Settled (S.state state.now) groups.now self.new.left i j k) }
     {
@@ -234,9 +234,9 @@ impl Packing {
         requires jk { j < k }
         requires k { k < length groups.now }
         requires allied { Allied (S.state state.now) groups.now self.old.left i j }
-        requires packed { Packed (S.state state.now) groups.now self.old.left self.old.rows.items }
+        requires packed { Packed (S.state state.now) groups.now self.old.left self.old.rows }
         ensures packed { OnOk result
-            (Packed (S.state state.now) groups.now self.new.left self.new.rows.items) }
+            (Packed (S.state state.now) groups.now self.new.left self.new.rows) }
         ensures nearer { OnOk result (Nearer self.old.left self.new.left) }
         ensures settled { OnOk result (Settled (S.state state.now) groups.now self.new.left i j k) }
     {
@@ -258,9 +258,9 @@ impl Packing {
         requires ij { i < j }
         requires j { j < length groups.now }
         requires allied { Allied (S.state state.now) groups.now self.old.left i j }
-        requires packed { Packed (S.state state.now) groups.now self.old.left self.old.rows.items }
+        requires packed { Packed (S.state state.now) groups.now self.old.left self.old.rows }
         ensures packed { OnOk result
-            (Packed (S.state state.now) groups.now self.new.left self.new.rows.items) }
+            (Packed (S.state state.now) groups.now self.new.left self.new.rows) }
         ensures nearer { OnOk result (Nearer self.old.left self.new.left) }
         ensures settled { OnOk result ((z : ℕ) → j < z → z < length groups.now
             → Settled (S.state state.now) groups.now self.new.left i j z) }
@@ -285,9 +285,9 @@ impl Packing {
         requires jk { j < k }
         requires k { k < length groups.now }
         requires idle { weight_of self.old.left i j ≤ℤ pos 0 }
-        requires packed { Packed (S.state state.now) groups.now self.old.left self.old.rows.items }
+        requires packed { Packed (S.state state.now) groups.now self.old.left self.old.rows }
         ensures packed { OnOk result
-            (Packed (S.state state.now) groups.now self.new.left self.new.rows.items) }
+            (Packed (S.state state.now) groups.now self.new.left self.new.rows) }
         ensures nearer { OnOk result (Nearer self.old.left self.new.left) }
         ensures settled { OnOk result (Settled (S.state state.now) groups.now self.new.left i j k) }
     {
@@ -312,9 +312,9 @@ impl Packing {
         requires j { j < length groups.now }
         requires idle { weight_of self.old.left i j ≤ℤ pos 0 }
         requires near { AreAllNear self.old.left (length groups.now) near.now }
-        requires packed { Packed (S.state state.now) groups.now self.old.left self.old.rows.items }
+        requires packed { Packed (S.state state.now) groups.now self.old.left self.old.rows }
         ensures packed { OnOk result
-            (Packed (S.state state.now) groups.now self.new.left self.new.rows.items) }
+            (Packed (S.state state.now) groups.now self.new.left self.new.rows) }
         ensures nearer { OnOk result (Nearer self.old.left self.new.left) }
         ensures settled { OnOk result ((z : ℕ) → j < z → z < length groups.now
             → Settled (S.state state.now) groups.now self.new.left i j z) }
@@ -340,9 +340,9 @@ impl Packing {
         requires ij { i < j }
         requires j { j < length groups.now }
         requires near { AreAllNear self.old.left (length groups.now) near.now }
-        requires packed { Packed (S.state state.now) groups.now self.old.left self.old.rows.items }
+        requires packed { Packed (S.state state.now) groups.now self.old.left self.old.rows }
         ensures packed { OnOk result
-            (Packed (S.state state.now) groups.now self.new.left self.new.rows.items) }
+            (Packed (S.state state.now) groups.now self.new.left self.new.rows) }
         ensures nearer { OnOk result (Nearer self.old.left self.new.left) }
         ensures settled { OnOk result ((z : ℕ) → j < z → z < length groups.now
             → Settled (S.state state.now) groups.now self.new.left i j z) }
@@ -366,9 +366,9 @@ impl Packing {
     ) -> Result<(), AllocError>
         requires i { i < length groups.now }
         requires near { AreAllNear self.old.left (length groups.now) near.now }
-        requires packed { Packed (S.state state.now) groups.now self.old.left self.old.rows.items }
+        requires packed { Packed (S.state state.now) groups.now self.old.left self.old.rows }
         ensures packed { OnOk result
-            (Packed (S.state state.now) groups.now self.new.left self.new.rows.items) }
+            (Packed (S.state state.now) groups.now self.new.left self.new.rows) }
         ensures nearer { OnOk result (Nearer self.old.left self.new.left) }
         ensures settled { OnOk result ((y z : ℕ) → i < y → y < z → z < length groups.now
             → Settled (S.state state.now) groups.now self.new.left i y z) }
@@ -388,9 +388,9 @@ impl Packing {
         near: &[Places],
     ) -> Result<(), AllocError>
         requires near { AreAllNear self.old.left (length groups.now) near.now }
-        requires packed { Packed (S.state state.now) groups.now self.old.left self.old.rows.items }
+        requires packed { Packed (S.state state.now) groups.now self.old.left self.old.rows }
         ensures packed { OnOk result
-            (Packed (S.state state.now) groups.now self.new.left self.new.rows.items) }
+            (Packed (S.state state.now) groups.now self.new.left self.new.rows) }
         ensures settled { OnOk result ((x y z : ℕ) → x < y → y < z → z < length groups.now
             → Settled (S.state state.now) groups.now self.new.left x y z) }
     {
@@ -407,20 +407,20 @@ impl Packing {
 /// is possible. The only error is want of memory.
 pub fn pack<S: Situation>(alloc: Global, state: &S) -> Result<Leaf, AllocError>
     ensures den { IfOk result (λ leaf. leaf.den ≡ 1) }
-    ensures packing { IfOk result (λ leaf. IsPacking (S.state state.now) leaf.rows.items) }
-    ensures rows { IfOk result (λ leaf. AreRows (S.state state.now) leaf.rows.items) }
-    ensures maximal { IfOk result (λ leaf. IsMaximal (S.state state.now) leaf.rows.items) }
+    ensures packing { IfOk result (λ leaf. IsPacking (S.state state.now) leaf.rows) }
+    ensures rows { IfOk result (λ leaf. AreRows (S.state state.now) leaf.rows) }
+    ensures maximal { IfOk result (λ leaf. IsMaximal (S.state state.now) leaf.rows) }
     ensures small { IfOk result (λ leaf.
-        unsigned_abs (leaf_bound_of (S.state state.now) 1 leaf.rows.items) ≤ 2 ^ 88) }
+        unsigned_abs (leaf_bound_of (S.state state.now) 1 leaf.rows) ≤ 2 ^ 88) }
 {
     let leaders = state.leaders(alloc)?;
-    let groups = leaders.vertices();
+    let groups = leaders.as_slice();
     let mut left = Residual::new(alloc, groups.len() as u32)?;
     fill(state, groups, &mut left);
     let near = near_lists(alloc, &left, groups.len())?;
     let mut packing = Packing {
         left,
-        rows: Vec::new(alloc),
+        rows: Seq::new(alloc),
     };
     packing.visit_all(alloc, state, groups, &near)?;
     Ok(Leaf {

@@ -110,7 +110,7 @@ fn add_row<S: Situation>(state: &S, scratch: &mut Residual, row: &Row)
         → weight_of scratch.new x z ≡ weight_of scratch.old x z
         +ℤ pos row.now.y *ℤ coefficient (leader (S.state state.now)) row.now x z }
 {
-    let (s, t) = (row.s.vertices(), row.t.vertices());
+    let (s, t) = (row.s.as_slice(), row.t.as_slice());
     let y = row.y as i128;
     add_across(state, scratch, s, t, y);
     add_inside(state, scratch, s, -y);

@@ -2,7 +2,7 @@ ghost use Rattle.std.specs.Prelude.{◌≡◌, ◌∷◌, [], ℕ, IfOk, length,
 ghost use Rattle.clu_rows.specs.Packing.{triangle as triangle_of};
 ghost use Rattle.clu_rows.specs.Rows.{TwoSetHolds};
 
-use clu_partition::{Vertex, VertexList};
+use clu_partition::{Seq, Vertex};
 use std::alloc::{AllocError, Global};
 use std::marker::Model;
 
@@ -11,9 +11,9 @@ use std::marker::Model;
 #[derive(Debug, Drop)]
 pub struct Row {
     /// The first set.
-    pub s: VertexList,
+    pub s: Seq<Vertex>,
     /// The second set.
-    pub t: VertexList,
+    pub t: Seq<Vertex>,
     /// The multiplier, a numerator over the leaf's denominator.
     pub y: u128,
 }
@@ -51,7 +51,7 @@ pub struct Leaf {
     /// The multipliers' denominator, from 1 to 2^32 in a leaf without a fault.
     pub den: u64,
     /// The rows, in the order in which they are checked.
-    pub rows: Vec<Row>,
+    pub rows: Seq<Row>,
 }
 
 /// Why a leaf proves no bound of a state.
@@ -72,10 +72,10 @@ impl Leaf {
     /// A leaf equal to this one.
     pub fn copy(&self, alloc: Global) -> Result<Leaf, AllocError>
         ensures den { IfOk result (λ leaf. leaf.den ≡ self.now.den) }
-        ensures rows { IfOk result (λ leaf. leaf.rows.items ≡ self.now.rows.items) }
+        ensures rows { IfOk result (λ leaf. leaf.rows ≡ self.now.rows) }
     {
-        let mut rows = Vec::with_capacity(alloc, self.rows.len())?;
-        for row in &self.rows {
+        let mut rows = Seq::new(alloc);
+        for row in self.rows.as_slice() {
             rows.push(row.copy(alloc)?)?;
         }
         Ok(Leaf {
@@ -89,9 +89,9 @@ impl Leaf {
 pub fn triangle(alloc: Global, a: Vertex, b: Vertex, c: Vertex, y: u128) -> Result<Row, AllocError>
     ensures { IfOk result (λ r. r ≡ triangle_of a b c y) }
 {
-    let mut s = VertexList::new(alloc);
+    let mut s = Seq::new(alloc);
     s.push(a)?;
-    let mut t = VertexList::new(alloc);
+    let mut t = Seq::new(alloc);
     t.push(b)?;
     t.push(c)?;
     Ok(Row { s, t, y })

@@ -1,10 +1,8 @@
 //! What the tests of the leaf bound and of the packing are made of.
 
-ghost use Rattle.std.specs.Prelude.{◌≡◌, IfOk};
-ghost use Rattle.clu_partition.specs.Partition.{below};
 ghost use Rattle.clu_state.specs.State.{IsFree};
 
-use clu_partition::{PairTable, Start, Vertex, VertexList};
+use clu_partition::{PairTable, Start, Vertex, all_vertices};
 use clu_state::{Decision, Rebuilt, Situation};
 use std::alloc::{AllocError, Global};
 use std::process::Abort;
@@ -13,18 +11,6 @@ use std::process::Abort;
 pub fn weigh(rt: &impl Abort, pairs: &mut PairTable, u: u32, v: u32, w: i8) {
     assert!(rt; u < pairs.n() && v < pairs.n() && u != v);
     pairs.set(Vertex(u), Vertex(v), w as i128);
-}
-
-/// All vertices of n.
-#[tactic(auto, using(clu_partition::proofs::Ranges::below_more))]
-fn vertices(alloc: Global, n: u32) -> Result<VertexList, AllocError>
-    ensures { IfOk result (λ list. list ≡ below n) }
-{
-    let mut list = VertexList::new(alloc);
-    for v in 0..n {
-        list.push(Vertex(v))?;
-    }
-    Ok(list)
 }
 
 /// The state of all vertices without decisions.
@@ -36,8 +22,8 @@ pub fn undecided<'p>(
 ) -> Result<Rebuilt<'p>, AllocError> {
     let n = start.n();
     assert!(rt; pairs.n() == n && pairs.total_abs() <= 1_000_000);
-    let members = vertices(alloc, n)?;
-    Rebuilt::new(alloc, pairs, start, members.vertices())
+    let members = all_vertices(alloc, n)?;
+    Rebuilt::new(alloc, pairs, start, members.as_slice())
 }
 
 /// Two members of free groups, by their places.

@@ -16,3 +16,5 @@ pub mod Building
 pub mod Gathered
 pub mod Built
 pub mod Whole
+pub mod Best
+pub mod Settling

@@ -5,7 +5,7 @@ use Rattle.clu_partition.specs.Partition.{below}
 use Rattle.clu_partition.proofs.Ranges.{below_at, below_size}
 use Rattle.clu_state.specs.State.{AreMembers}
 
-among_below : (n v : ℕ) → v < n → Contains (below n) v
+pub among_below : (n v : ℕ) → v < n → Contains (below n) v
 among_below n v l = (v, (let s = below_size n in omega (arith, s, l)), below_at n v v l)
 
 pub all_members : (c : Closed) → IsClosed c → AreMembers c (below (length c.group))

@@ -3,7 +3,7 @@ ghost use Rattle.clu_state.specs.Chains.{IsLeastTied};
 ghost use Rattle.clu_state.specs.State.{State, IsFree, IsState, leader, group_weight, are_apart, fixed_value, free_pairs, free_with, group_leaders, CanDecide, decided};
 
 use crate::Decision;
-use clu_partition::{Vertex, VertexList};
+use clu_partition::{Seq, Vertex};
 use std::alloc::{AllocError, Global};
 
 /// What the solver and the checker ask of a state: a pair table, closed rules, members, each group
@@ -52,11 +52,11 @@ pub trait Situation {
         ensures err { OnErr result (state self.new ≡ state self.old) };
 
     /// The least vertices of the groups, rising.
-    final fn leaders(&self, alloc: Global) -> Result<VertexList, AllocError>
+    final fn leaders(&self, alloc: Global) -> Result<Seq<Vertex>, AllocError>
         ensures value { IfOk result (λ found. found ≡ group_leaders (state self.now)) }
         ensures valid { IsState (state self.now) }
     {
-        let mut found = VertexList::new(alloc);
+        let mut found = Seq::new(alloc);
         for v in self.members() {
             if self.group_of(*v) == *v {
                 found.push(*v)?;
@@ -71,7 +71,7 @@ pub trait Situation {
         ensures free { IfOk result (λ pairs. All (λ p. IsFree (state self.now) p.0 p.1) pairs.items) }
     {
         let leaders = self.leaders(alloc)?;
-        let groups = leaders.vertices();
+        let groups = leaders.as_slice();
         let mut pairs = Vec::new(alloc);
         for (i, a) in groups.iter().enumerate() {
             push_free(self, &mut pairs, *a, &groups[i + 1..])?;

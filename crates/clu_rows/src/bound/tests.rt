@@ -1,6 +1,7 @@
 use super::*;
 use crate::samples::{put_apart, put_together, undecided, weigh};
-use clu_partition::{PairTable, Start, VertexList};
+use clu_partition::{PairTable, Seq, Start};
+use clu_state::Rebuilt;
 use std::alloc::{AllocError, Global};
 use std::process::Abort;
 use std::test::Fail;
@@ -29,8 +30,8 @@ fn mixed(rt: &impl Abort, alloc: Global) -> Result<PairTable, AllocError> {
     Ok(pairs)
 }
 
-fn list(alloc: Global, vertices: &[u32]) -> Result<VertexList, AllocError> {
-    let mut list = VertexList::new(alloc);
+fn list(alloc: Global, vertices: &[u32]) -> Result<Seq<Vertex>, AllocError> {
+    let mut list = Seq::new(alloc);
     for v in vertices {
         list.push(Vertex(*v))?;
     }
@@ -41,7 +42,7 @@ fn list(alloc: Global, vertices: &[u32]) -> Result<VertexList, AllocError> {
 fn one_row(alloc: Global, den: u64, s: &[u32], t: &[u32], y: u128) -> Result<Leaf, AllocError> {
     let s = list(alloc, s)?;
     let t = list(alloc, t)?;
-    let mut rows = Vec::new(alloc);
+    let mut rows = Seq::new(alloc);
     rows.push(Row { s, t, y })?;
     Ok(Leaf { den, rows })
 }
@@ -61,6 +62,20 @@ fn bound<S: Situation>(
     Ok(leaf_bound(state, &leaf, &mut scratch))
 }
 
+/// The state of the signed star in which its leaves are apart.
+fn leaves_apart<'p>(
+    rt: &impl Abort,
+    alloc: Global,
+    pairs: &'p PairTable,
+    start: &'p Start,
+) -> Result<Rebuilt<'p>, AllocError> {
+    let mut state = undecided(rt, alloc, pairs, start)?;
+    for (i, j) in [(1, 2), (1, 3), (2, 3)] {
+        put_apart(rt, &mut state, i, j)?;
+    }
+    Ok(state)
+}
+
 // The three leaves are apart, so the free pairs are those of the centre, each 2. The row takes 2 of
 // each and allows one of them: 2 * min(1, 3) = 2.
 #[test]
@@ -68,27 +83,29 @@ fn a_star_of_leaves_apart_has_the_bound_of_one_edge(rt: HostRuntime) -> Result<(
     let alloc = rt.alloc();
     let pairs = signed_star(&rt, alloc)?;
     let start = Start::none(alloc, 4)?;
-    let mut state = undecided(&rt, alloc, &pairs, &start)?;
-    put_apart(&rt, &mut state, 1, 2)?;
-    put_apart(&rt, &mut state, 1, 3)?;
-    put_apart(&rt, &mut state, 2, 3)?;
+    let state = leaves_apart(&rt, alloc, &pairs, &start)?;
     assert_eq!(rt; bound(alloc, &state, 1, &[0], &[1, 2, 3], 2)?, Ok(2));
-    assert_eq!(rt;
-        bound(alloc, &state, 0, &[0], &[1, 2, 3], 2)?,
-        Err(LeafFault::Den)
-    );
-    assert_eq!(rt;
-        bound(alloc, &state, 1, &[0], &[1, 1], 2)?,
-        Err(LeafFault::Row { row: 1 })
-    );
-    assert_eq!(rt;
-        bound(alloc, &state, 1, &[0], &[1, 4], 2)?,
-        Err(LeafFault::Row { row: 1 })
-    );
-    assert_eq!(rt;
-        bound(alloc, &state, 1, &[0], &[1, 2, 3], 0)?,
-        Err(LeafFault::Row { row: 1 })
-    );
+    Ok(())
+}
+
+/// Leaves of the signed star that have a fault: the denominator, the second set, the multiplier and
+/// the fault.
+const FAULTS: [(u64, &[u32], u128, LeafFault); 4] = [
+    (0, &[1, 2, 3], 2, LeafFault::Den),
+    (1, &[1, 1], 2, LeafFault::Row { row: 1 }),
+    (1, &[1, 4], 2, LeafFault::Row { row: 1 }),
+    (1, &[1, 2, 3], 0, LeafFault::Row { row: 1 }),
+];
+
+#[test]
+fn the_fault_of_a_leaf_is_named(rt: HostRuntime) -> Result<(), Fail> {
+    let alloc = rt.alloc();
+    let pairs = signed_star(&rt, alloc)?;
+    let start = Start::none(alloc, 4)?;
+    let state = leaves_apart(&rt, alloc, &pairs, &start)?;
+    for (den, t, y, fault) in FAULTS {
+        assert_eq!(rt; bound(alloc, &state, den, &[0], t, y)?, Err(fault));
+    }
     Ok(())
 }
 

@@ -134,7 +134,7 @@ fn the_first_free_pairs_join_a_state_into_one_group(rt: HostRuntime) -> Result<(
         assert!(rt; join_first(alloc, &mut state)?);
     }
     assert!(rt; !join_first(alloc, &mut state)?);
-    assert_eq!(rt; state.leaders(alloc)?.vertices(), [Vertex(0)].as_slice());
+    assert_eq!(rt; state.leaders(alloc)?.as_slice(), [Vertex(0)].as_slice());
     assert_eq!(rt; state.decisions().len(), 4);
     assert_eq!(rt; state.fixed_value(), 0);
     Ok(())

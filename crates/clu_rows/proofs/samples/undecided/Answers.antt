@@ -6,4 +6,4 @@ use Rattle.clu_rows.proofs.samples.undecided.Goals as goal
 
 pub new-requires-clause-members : goal.new-requires-clause-members
 new-requires-clause-members g c =
-    subst (AreMembers c.args.start.now) (sym (c.vertices-2.ensures ∙ c.in_ok-members.ensures ∙ ap below c.n-n.ensures.value)) (all_members c.args.start.now c.n-n.ensures.closed)
+    subst (AreMembers c.args.start.now) (sym (c.as_slice.ensures ∙ c.in_ok-members.ensures ∙ ap below c.n-n.ensures.value)) (all_members c.args.start.now c.n-n.ensures.closed)

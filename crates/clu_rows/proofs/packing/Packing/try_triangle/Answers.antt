@@ -23,7 +23,7 @@ lower-requires-clause-third g c =
 cast_is : (y : ℤ) → pos 0 <ℤ y → to_z w128 (of_z w128 y) ≡ y → y ≡ pos (nat_abs (to_z w128 (of_z w128 y)))
 cast_is y p e = omega (arith, ints)
 
-done : (g : Given.Over) (c : goal.After-lower g) → Tried (g.S.Situation.state c.args.state.now) c.args.groups.now c.args.self.now.left c.lower.new.left c.push.new.self.items c.args.a c.args.b c.args.c
+done : (g : Given.Over) (c : goal.After-lower g) → Tried (g.S.Situation.state c.args.state.now) c.args.groups.now c.args.self.now.left c.lower.new.left c.push.new.self c.args.a c.args.b c.args.c
 done g c =
     let m = c.multiplier-y.ensures in
     let r = c.rise_of-rise.ensures in
@@ -33,10 +33,10 @@ done g c =
     let wt : to_z w128 (of_z w128 c.get-third.result) ≡ c.get-third.result = omega (arith, ints) in
     let wr : to_z w128 (of_z w128 c.rise_of-rise.result) ≡ c.rise_of-rise.result = omega (arith, ints) in
     let opp : (are_apart (g.S.Situation.state c.args.state.now) (slice_index c.args.groups.now c.args.b) (slice_index c.args.groups.now c.args.c) ≡ true) ⊎ (weight_of c.args.self.now.left c.args.b c.args.c <ℤ pos 0) = c.if-not-opposes.ensures.0 (search rules) in
-    tried_bits _ _ _ c.lower.new.left _ c.push.new.self.items c.in_ok-row.row c.args.a c.args.b c.args.c c.index-groups-a.result c.index-groups-b.result c.index-groups-c.result (nat_abs (to_z w128 (of_z w128 c.multiplier-y.result))) c.get-first.result c.get-second.result c.get-third.result c.multiplier-y.result c.rise_of-rise.result
+    tried_bits _ _ _ c.lower.new.left _ c.push.new.self c.in_ok-row.row c.args.a c.args.b c.args.c c.index-groups-a.result c.index-groups-b.result c.index-groups-c.result (nat_abs (to_z w128 (of_z w128 c.multiplier-y.result))) c.get-first.result c.get-second.result c.get-third.result c.multiplier-y.result c.rise_of-rise.result
     (to_z w128 (of_z w128 c.get-first.result)) (to_z w128 (of_z w128 c.get-second.result)) (to_z w128 (of_z w128 c.get-third.result)) (to_z w128 (of_z w128 c.multiplier-y.result)) (to_z w128 (of_z w128 c.rise_of-rise.result))
     c.requires.packed c.requires.a c.requires.b c.requires.c c.requires.ab c.requires.ac c.requires.bc w1 w2 wt wy wr c.get-first.ensures c.get-second.ensures c.get-third.ensures opp m.positive m.first m.second m.third m.reached r.below r.other
-    c.lower.ensures c.in_ok-push.ensures.items c.in_ok-row.ensures
+    c.lower.ensures c.in_ok-push.ensures.ok c.in_ok-row.ensures
     (c.index-groups-a.is ∙ get_or_default_zero c.args.groups.now c.args.a c.index-groups-a.result c.requires.a)
     (c.index-groups-b.is ∙ get_or_default_zero c.args.groups.now c.args.b c.index-groups-b.result c.requires.b)
     (c.index-groups-c.is ∙ get_or_default_zero c.args.groups.now c.args.c c.index-groups-c.result c.requires.c)

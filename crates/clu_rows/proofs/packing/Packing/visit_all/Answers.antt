@@ -10,7 +10,7 @@ loop-i-preserved g c =
     record {
       packed = e.packed;
       near = all_near_stay c.loop-i.self.left c.visit_first.new.self.left _ c.args.near.now (omega (arith, i.packed.size)) e.nearer i.near;
-      settled = more_first (g.S.Situation.state c.args.state.now) c.args.groups.now c.loop-i.self.left c.visit_first.new.self.left c.loop-i.self.rows.items c.visit_first.new.self.rows.items c.loop-i.i i.packed e.packed e.nearer (omega arith) i.settled e.settled;
+      settled = more_first (g.S.Situation.state c.args.state.now) c.args.groups.now c.loop-i.self.left c.visit_first.new.self.left c.loop-i.self.rows c.visit_first.new.self.rows c.loop-i.i i.packed e.packed e.nearer (omega arith) i.settled e.settled;
     }
 
 pub returns-clause-settled : goal.returns-clause-settled

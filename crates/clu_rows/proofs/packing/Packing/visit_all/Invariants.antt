@@ -4,7 +4,7 @@ use Rattle.clu_rows.proofs.packing.Packing.visit_all.Given as goal
 
 abbrev pub invariant-loop-i : goal.invariant-loop-i
 invariant-loop-i g l = record {
-  packed : Packed (g.S.Situation.state l.state) l.groups l.self.left l.self.rows.items;
+  packed : Packed (g.S.Situation.state l.state) l.groups l.self.left l.self.rows;
   near : AreAllNear l.self.left (length l.groups) l.near;
   settled : (x y z : ℕ) → x < l.i → x < y → y < z → z < length l.groups → Settled (g.S.Situation.state l.state) l.groups l.self.left x y z;
 }

@@ -13,7 +13,7 @@ loop-k-preserved g c =
       packed = e.packed;
       nearer = nearer_trans c.args.self.now.left c.loop-k.self.left c.visit_third.new.self.left (i.packed.size ∙ sym c.requires.packed.size) i.nearer e.nearer;
       allied = allied_stays _ c.args.groups.now c.loop-k.self.left c.visit_third.new.self.left _ c.args.i c.args.j i.packed c.requires.ij c.requires.j e.nearer i.allied;
-      settled = more_third (g.S.Situation.state c.args.state.now) c.args.groups.now c.loop-k.self.left c.visit_third.new.self.left c.loop-k.self.rows.items c.visit_third.new.self.rows.items c.args.i c.args.j c.loop-k.k i.packed e.packed e.nearer c.requires.ij (omega arith) (omega arith) i.settled e.settled;
+      settled = more_third (g.S.Situation.state c.args.state.now) c.args.groups.now c.loop-k.self.left c.visit_third.new.self.left c.loop-k.self.rows c.visit_third.new.self.rows c.args.i c.args.j c.loop-k.k i.packed e.packed e.nearer c.requires.ij (omega arith) (omega arith) i.settled e.settled;
     }
 
 pub returns-clause-settled : goal.returns-clause-settled

@@ -12,7 +12,7 @@ loop-j-preserved g c =
       packed = e.packed;
       nearer = nearer_trans c.args.self.now.left c.loop-j.self.left c.visit_pair.new.self.left (i.packed.size ∙ sym c.requires.packed.size) i.nearer e.nearer;
       near = all_near_stay c.loop-j.self.left c.visit_pair.new.self.left _ c.args.near.now (omega (arith, i.packed.size)) e.nearer i.near;
-      settled = more_second (g.S.Situation.state c.args.state.now) c.args.groups.now c.loop-j.self.left c.visit_pair.new.self.left c.loop-j.self.rows.items c.visit_pair.new.self.rows.items c.args.i c.loop-j.j i.packed e.packed e.nearer (omega arith) (omega arith) i.settled e.settled;
+      settled = more_second (g.S.Situation.state c.args.state.now) c.args.groups.now c.loop-j.self.left c.visit_pair.new.self.left c.loop-j.self.rows c.visit_pair.new.self.rows c.args.i c.loop-j.j i.packed e.packed e.nearer (omega arith) (omega arith) i.settled e.settled;
     }
 
 pub returns-clause-settled : goal.returns-clause-settled

@@ -4,7 +4,7 @@ use Rattle.clu_rows.proofs.packing.Packing.visit_first.Given as goal
 
 abbrev pub invariant-loop-j : goal.invariant-loop-j
 invariant-loop-j g l = record {
-  packed : Packed (g.S.Situation.state l.state) l.groups l.self.left l.self.rows.items;
+  packed : Packed (g.S.Situation.state l.state) l.groups l.self.left l.self.rows;
   nearer : Nearer l.initial.self.left l.self.left;
   near : AreAllNear l.self.left (length l.groups) l.near;
   settled : (y z : ℕ) → l.i < y → y < l.j → y < z → z < length l.groups → Settled (g.S.Situation.state l.state) l.groups l.self.left l.i y z;

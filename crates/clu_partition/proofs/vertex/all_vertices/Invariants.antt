@@ -1,6 +1,6 @@
 use Rattle.std.proofs.Common.{◌≡◌}
 use Rattle.clu_partition.specs.Partition.{below}
-use Rattle.clu_rows.proofs.samples.vertices.Given as goal
+use Rattle.clu_partition.proofs.vertex.all_vertices.Given as goal
 
 abbrev pub invariant-loop-v : goal.invariant-loop-v
 invariant-loop-v l = l.list ≡ below l.v
