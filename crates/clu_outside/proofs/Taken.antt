@@ -5,7 +5,8 @@ use Rattle.std.proofs.Math.Seq.{take-append-add}
 use Rattle.std.proofs.lemmas.List.{take_all}
 use Rattle.clu_outside.specs.Sink.{with_bytes}
 
-take_more : (bytes : List ℕ) (done count : ℕ) → done ≤ length bytes → take (done + count) bytes ≡ take done bytes ++ take count (drop done bytes)
+-- a longer front is the front and what comes after it
+pub take_more : (bytes : List ℕ) (done count : ℕ) → done ≤ length bytes → take (done + count) bytes ≡ take done bytes ++ take count (drop done bytes)
 take_more bytes done count within =
     let len : length (take done bytes) ≡ done = omega (arith, length-take {A = ℕ}) in
     ap (λ (xs : List ℕ). take (done + count) xs) (sym (take-append-drop done bytes))

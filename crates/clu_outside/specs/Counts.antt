@@ -9,6 +9,10 @@ last_count = 2 ^ 64 - 1
 abbrev pub next_count : ℕ → ℕ
 next_count count = min (count + 1) last_count
 
+-- so many more, or the last value
+abbrev pub later_count : ℕ → ℕ → ℕ
+later_count more count = min (count + more) last_count
+
 -- a count is larger than before, or stands at the last value
 abbrev pub Rose : ℕ → ℕ → Type 0
 Rose before now = next_count before ≤ now

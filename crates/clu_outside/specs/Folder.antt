@@ -1,7 +1,8 @@
--- What a folder tells of its content, and what a load tells of the folder.
-use Rattle.std.specs.Prelude.{◌≡◌, ℕ, ◌<◌, ◌≤◌, List, length, Option, Some, None, Result, IfOk, IsErrOf, IfSome, IsSomeAnd}
+-- What a folder tells of its content, and what its calls tell of the folder.
+use Rattle.std.specs.Prelude.{◌≡◌, ◌≢◌, ◌⊎◌, ⊤, ℕ, ◌<◌, ◌≤◌, ◌+◌, ◌/◌, List, [], ◌++◌, length, take, Option, Some, None, unwrap_or, Result, IfOk, OnOk, OnErr, IsErrOf, IfSome, IsSomeAnd}
 use Rattle.std.specs.Global.{Vec}
-use Rattle.clu_outside.specs.Counts.{Rose, next_count, last_count}
+use Rattle.clu_outside.specs.Counts.{Rose, next_count, last_count, later_count}
+use Rattle.clu_outside.specs.declared.sink.WriteErr.{WriteErr}
 use Rattle.clu_outside.specs.declared.folder.LoadErr.{LoadErr}
 use Rattle.clu_outside.specs.declared.folder.LoadErr.TheVariants.{Failed, Missing, TooLong}
 
@@ -41,3 +42,80 @@ pub record LoadTells (old new : Option Told) (name : List ℕ) (limit : ℕ) (re
 pub record LoadCause (before now : ℕ) (result : Result (Vec ℕ) LoadErr) : Type 0 where
   pub failed : IsErrOf result Failed → Rose before now
   pub stays : (IsErrOf result Failed → ⊥) → now ≡ before
+
+-- the two tell, and the fact holds of what they tell, or neither tells
+abbrev pub BothTell : Option Told → Option Told → (Told → Told → Type 0) → Type 0
+BothTell None None Fact = ⊤
+BothTell None (Some now) Fact = ⊥
+BothTell (Some before) None Fact = ⊥
+BothTell (Some before) (Some now) Fact = Fact before now
+
+-- the bytes under a name, and none where there is no such file
+abbrev pub bytes_under : Told → List ℕ → List ℕ
+bytes_under told name = unwrap_or (told.held name) []
+
+-- all other names hold what they held
+abbrev pub SameElsewhere : Told → Told → List ℕ → Type 0
+SameElsewhere before now name = (other : List ℕ) → other ≢ name → now.held other ≡ before.held other
+
+-- the name holds these bytes, and other names what they held
+pub record HoldsWhole (before now : Told) (name bytes : List ℕ) : Type 0 where
+  pub whole : now.held name ≡ Some bytes
+  pub others : SameElsewhere before now name
+
+-- the name holds what it held, or the first bytes and a prefix of more, and other names what they held
+pub record HoldsPartly (before now : Told) (name first more : List ℕ) : Type 0 where
+  pub count : ℕ
+  pub within : count ≤ length more
+  pub partly : (now.held name ≡ before.held name) ⊎ (now.held name ≡ Some (first ++ take count more))
+  pub others : SameElsewhere before now name
+
+-- where the folder tells, the name holds the bytes and nothing else has changed
+abbrev pub IsStored : Option Told → Option Told → List ℕ → List ℕ → Type 0
+IsStored old new name bytes = BothTell old new (λ before now. HoldsWhole before now name bytes)
+
+-- where the folder tells, the name holds what it held or a prefix of the bytes, and nothing else has changed
+abbrev pub IsStoredPartly : Option Told → Option Told → List ℕ → List ℕ → Type 0
+IsStoredPartly old new name bytes = BothTell old new (λ before now. HoldsPartly before now name [] bytes)
+
+-- where the folder tells, the name holds what it held and then the bytes, and nothing else has changed
+abbrev pub IsAppended : Option Told → Option Told → List ℕ → List ℕ → Type 0
+IsAppended old new name bytes =
+    BothTell old new (λ before now. HoldsWhole before now name (bytes_under before name ++ bytes))
+
+-- where the folder tells, the name holds what it held, or that and then a prefix of the bytes, and nothing else has changed
+abbrev pub IsAppendedPartly : Option Told → Option Told → List ℕ → List ℕ → Type 0
+IsAppendedPartly old new name bytes =
+    BothTell old new (λ before now. HoldsPartly before now name (bytes_under before name) bytes)
+
+-- where the folder tells, it has had so many calls more
+abbrev pub CallsLater : ℕ → Option Told → Option Told → Type 0
+CallsLater more old new = BothTell old new (λ before now. now.calls ≡ later_count more before.calls)
+
+-- where the folder tells, it has had one call more at least, and at most so many
+abbrev pub CallsWithin : ℕ → Option Told → Option Told → Type 0
+CallsWithin most old new =
+    BothTell old new (λ before now. Rose before.calls now.calls × now.calls ≤ later_count most before.calls)
+
+-- A create is one call. Then the name holds no bytes. After a refusal it holds what it held, or no bytes.
+pub record CreateTells {T : Type 0} (old new : Option Told) (name : List ℕ) (result : Result T WriteErr) : Type 0 where
+  pub later : CallsLater 1 old new
+  pub created : OnOk result (IsStored old new name [])
+  pub refused : OnErr result (IsStoredPartly old new name [])
+
+-- An append is one call. It adds the bytes to what the name holds, and after a refusal a prefix of them or nothing.
+pub record AppendTells {T : Type 0} (old new : Option Told) (name bytes : List ℕ) (result : Result T WriteErr) : Type 0 where
+  pub later : CallsLater 1 old new
+  pub appended : OnOk result (IsAppended old new name bytes)
+  pub refused : OnErr result (IsAppendedPartly old new name bytes)
+
+-- how many calls store a file of so many bytes: a create, and an append for each piece of 4,096 bytes or fewer
+abbrev pub stores_of : ℕ → ℕ
+stores_of size = 1 + (size + 4095) / 4096
+
+-- A file is stored whole, or it is refused. In each case its name holds what it held, or a prefix of the bytes.
+pub record StoresWhole {T : Type 0} (old new : Option Told) (name bytes : List ℕ) (result : Result T WriteErr) : Type 0 where
+  pub stored : OnOk result (IsStored old new name bytes)
+  pub partly : IsStoredPartly old new name bytes
+  pub calls : OnOk result (CallsLater (stores_of (length bytes)) old new)
+  pub at_most : CallsWithin (stores_of (length bytes)) old new

@@ -18,9 +18,9 @@ told_by folder = record { held = content folder.files; calls = folder.calls }
 abbrev pub load_faults_of : MemoryFolder → ℕ
 load_faults_of folder = folder.load_faults
 
--- how many creates and appends have: a folder in memory has none
+-- how many creates and appends have
 abbrev pub store_faults_of : MemoryFolder → ℕ
-store_faults_of folder = 0
+store_faults_of folder = folder.store_faults
 
 -- the numbers of the calls that are to fail
 abbrev pub failing_of : MemoryFolder → List ℕ
@@ -30,4 +30,9 @@ failing_of folder = folder.failing.items
 pub record SameCalls (old new : MemoryFolder) : Type 0 where
   pub calls : new.calls ≡ old.calls
   pub load_faults : load_faults_of new ≡ load_faults_of old
+  pub store_faults : store_faults_of new ≡ store_faults_of old
   pub failing : failing_of new ≡ failing_of old
+
+-- each name holds what it held
+abbrev pub SameFiles : MemoryFolder → MemoryFolder → Type 0
+SameFiles old new = (name : List ℕ) → (told_by new).held name ≡ (told_by old).held name

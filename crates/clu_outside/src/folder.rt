@@ -1,7 +1,9 @@
 ghost use Rattle.std.specs.Prelude.{◌≡◌, ℕ, Option};
 ghost use Rattle.clu_outside.specs.declared.folder.LoadErr.TheVariants.{Memory};
-ghost use Rattle.clu_outside.specs.Folder.{Told, LoadTells, LoadCause};
+ghost use Rattle.clu_outside.specs.Folder.{Told, LoadTells, LoadCause, CreateTells, AppendTells};
+ghost use Rattle.clu_outside.specs.Sink.{WriteCause};
 
+use crate::WriteErr;
 use std::alloc::{AllocError, Global};
 
 /// Why a load gave no bytes.
@@ -42,4 +44,16 @@ pub trait Folder {
         ensures tells { LoadTells (told self.old) (told self.new) name.now limit result }
         ensures cause { LoadCause (load_faults self.old) (load_faults self.new) result }
         ensures stores { store_faults self.new ≡ store_faults self.old };
+
+    /// Makes the name hold no bytes.
+    fn create(&mut self, name: &str) -> Result<(), WriteErr>
+        ensures tells { CreateTells (told self.old) (told self.new) name.now result }
+        ensures cause { WriteCause (store_faults self.old) (store_faults self.new) result }
+        ensures loads { load_faults self.new ≡ load_faults self.old };
+
+    /// Adds bytes at the end of what the name holds. A missing name counts as one without bytes.
+    fn append(&mut self, name: &str, bytes: &[u8]) -> Result<(), WriteErr>
+        ensures tells { AppendTells (told self.old) (told self.new) name.now bytes.now result }
+        ensures cause { WriteCause (store_faults self.old) (store_faults self.new) result }
+        ensures loads { load_faults self.new ≡ load_faults self.old };
 }

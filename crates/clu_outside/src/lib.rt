@@ -12,6 +12,7 @@ mod memory_sink;
 mod real_folder;
 mod real_sink;
 mod sink;
+mod store;
 
 pub use folder::{Folder, LoadErr};
 pub use memory_folder::MemoryFolder;
@@ -19,3 +20,4 @@ pub use memory_sink::MemorySink;
 pub use real_folder::RealFolder;
 pub use real_sink::RealSink;
 pub use sink::{Sink, WriteErr, write_whole};
+pub use store::{PIECE, store_whole};

@@ -1,9 +1,10 @@
-ghost use Rattle.std.specs.Prelude.{◌≡◌, ◌≢◌, ◌↔◌, ℕ, List, [], Some, None, OnOk, OnErr, IsErrOf, MatchOption, Contains};
+ghost use Rattle.std.specs.Prelude.{◌≡◌, ◌↔◌, ◌++◌, Some, None, OnOk, OnErr, IfErr, IsErr, IsErrOf, IsTrue, is_ok, if◌then◌else◌, MatchOption, Contains};
 ghost use Rattle.clu_outside.specs.Counts.{next_count};
-ghost use Rattle.clu_outside.specs.Folder.{LoadTells, LoadCause};
-ghost use Rattle.clu_outside.specs.MemoryFolder.{told_by, load_faults_of, store_faults_of, failing_of, SameCalls};
+ghost use Rattle.clu_outside.specs.Folder.{LoadTells, LoadCause, CreateTells, AppendTells, SameElsewhere, bytes_under};
+ghost use Rattle.clu_outside.specs.Sink.{WriteCause};
+ghost use Rattle.clu_outside.specs.MemoryFolder.{told_by, load_faults_of, store_faults_of, failing_of, SameCalls, SameFiles};
 
-use crate::{Folder, LoadErr};
+use crate::{Folder, LoadErr, WriteErr};
 use std::alloc::{AllocError, Global};
 use std::collections::BTreeMap;
 
@@ -15,6 +16,7 @@ pub struct MemoryFolder {
     failing: Vec<u64>,
     calls: u64,
     load_faults: u64,
+    store_faults: u64,
 }
 
 impl MemoryFolder {
@@ -22,7 +24,8 @@ impl MemoryFolder {
     pub fn new(alloc: Global, failing: Vec<u64>) -> Self
         ensures empty { (told_by result).held ≡ λ _. None }
         ensures calls { (told_by result).calls ≡ 0 }
-        ensures faults { load_faults_of result ≡ 0 }
+        ensures load_faults { load_faults_of result ≡ 0 }
+        ensures store_faults { store_faults_of result ≡ 0 }
         ensures failing { failing_of result ≡ failing.items }
     {
         MemoryFolder {
@@ -31,20 +34,79 @@ impl MemoryFolder {
             failing,
             calls: 0,
             load_faults: 0,
+            store_faults: 0,
         }
     }
 
     /// Puts a file into the folder, in place of one of that name. This is no call of the trait.
     pub fn put(&mut self, name: &str, bytes: &[u8]) -> Result<(), AllocError>
         ensures put { OnOk result ((told_by self.new).held name.now ≡ Some bytes.now) }
-        ensures others { (other : List ℕ) → other ≢ name.now
-            → (told_by self.new).held other ≡ (told_by self.old).held other }
+        ensures others { SameElsewhere (told_by self.old) (told_by self.new) name.now }
+        ensures err { OnErr result ((told_by self.new).held ≡ (told_by self.old).held) }
+        ensures calls { SameCalls self.old self.new }
+    {
+        self.put_at(name, bytes.to_vec(self.alloc)?)
+    }
+
+    /// How many calls it has had.
+    pub fn calls(&self) -> u64
+        ensures { result ≡ (told_by self.now).calls }
+    {
+        self.calls
+    }
+
+    fn put_at(&mut self, name: &str, bytes: Vec<u8>) -> Result<(), AllocError>
+        ensures put { OnOk result ((told_by self.new).held name.now ≡ Some bytes.items) }
+        ensures others { SameElsewhere (told_by self.old) (told_by self.new) name.now }
         ensures err { OnErr result ((told_by self.new).held ≡ (told_by self.old).held) }
         ensures calls { SameCalls self.old self.new }
     {
         let key = String::from_str(self.alloc, name)?;
-        let value = bytes.to_vec(self.alloc)?;
-        self.files.insert(key, value)?;
+        self.files.insert(key, bytes)?;
+        Ok(())
+    }
+
+    fn add_at(&mut self, name: &str, bytes: &[u8]) -> Result<(), AllocError>
+        ensures added { OnOk result ((told_by self.new).held name.now
+            ≡ Some (bytes_under (told_by self.old) name.now ++ bytes.now)) }
+        ensures others { SameElsewhere (told_by self.old) (told_by self.new) name.now }
+        ensures err { OnErr result (SameFiles self.old self.new) }
+        ensures calls { SameCalls self.old self.new }
+    {
+        match self.files.get_mut(name) {
+            Some(held) => held.extend_from_slice(bytes),
+            None => self.put_at(name, bytes.to_vec(self.alloc)?),
+        }
+    }
+
+    /// Counts a call, and says whether it is listed.
+    fn next_is_listed(&mut self) -> bool
+        ensures listed { IsTrue result
+            ↔ Contains (failing_of self.old) (next_count (told_by self.old).calls) }
+        ensures counted { self.new ≡ record self.old { calls = next_count self.old.calls } }
+    {
+        self.calls = self.calls.saturating_add(1);
+        let call = self.calls;
+        self.failing.contains(&call)
+    }
+
+    /// Counts a create or an append, and fails where it is listed.
+    fn begin_store(&mut self) -> Result<(), WriteErr>
+        ensures held { (told_by self.new).held ≡ (told_by self.old).held }
+        ensures calls { (told_by self.new).calls ≡ next_count (told_by self.old).calls }
+        ensures cause { IfErr result (λ error. error ≡ WriteErr.Failed) }
+        ensures faults { store_faults_of self.new
+            ≡ (if is_ok result then store_faults_of self.old
+            else next_count (store_faults_of self.old)) }
+        ensures loads { load_faults_of self.new ≡ load_faults_of self.old }
+        ensures listed { IsErr result
+            ↔ Contains (failing_of self.old) (next_count (told_by self.old).calls) }
+        ensures failing { failing_of self.new ≡ failing_of self.old }
+    {
+        if self.next_is_listed() {
+            self.store_faults = self.store_faults.saturating_add(1);
+            return Err(WriteErr::Failed);
+        }
         Ok(())
     }
 
@@ -78,9 +140,7 @@ impl Folder for MemoryFolder {
             ↔ Contains (failing_of self.old) (next_count (told_by self.old).calls) }
         ensures failing { failing_of self.new ≡ failing_of self.old }
     {
-        self.calls = self.calls.saturating_add(1);
-        let call = self.calls;
-        if self.failing.contains(&call) {
+        if self.next_is_listed() {
             self.load_faults = self.load_faults.saturating_add(1);
             return Err(LoadErr::Failed);
         }
@@ -93,6 +153,40 @@ impl Folder for MemoryFolder {
                 Ok(bytes.to_vec(alloc)?)
             }
         }
+    }
+
+    fn create(&mut self, name: &str) -> Result<(), WriteErr>
+        ensures tells { CreateTells (Some (told_by self.old)) (Some (told_by self.new))
+            name.now result }
+        ensures cause { WriteCause (store_faults_of self.old) (store_faults_of self.new) result }
+        ensures loads { load_faults_of self.new ≡ load_faults_of self.old }
+        ensures counted { IsErrOf result WriteErr.Failed
+            → store_faults_of self.new ≡ next_count (store_faults_of self.old) }
+        ensures listed { IsErrOf result WriteErr.Failed
+            ↔ Contains (failing_of self.old) (next_count (told_by self.old).calls) }
+        ensures refused { OnErr result (SameFiles self.old self.new) }
+        ensures failing { failing_of self.new ≡ failing_of self.old }
+    {
+        self.begin_store()?;
+        self.put_at(name, Vec::new(self.alloc))?;
+        Ok(())
+    }
+
+    fn append(&mut self, name: &str, bytes: &[u8]) -> Result<(), WriteErr>
+        ensures tells { AppendTells (Some (told_by self.old)) (Some (told_by self.new))
+            name.now bytes.now result }
+        ensures cause { WriteCause (store_faults_of self.old) (store_faults_of self.new) result }
+        ensures loads { load_faults_of self.new ≡ load_faults_of self.old }
+        ensures counted { IsErrOf result WriteErr.Failed
+            → store_faults_of self.new ≡ next_count (store_faults_of self.old) }
+        ensures listed { IsErrOf result WriteErr.Failed
+            ↔ Contains (failing_of self.old) (next_count (told_by self.old).calls) }
+        ensures refused { OnErr result (SameFiles self.old self.new) }
+        ensures failing { failing_of self.new ≡ failing_of self.old }
+    {
+        self.begin_store()?;
+        self.add_at(name, bytes)?;
+        Ok(())
     }
 }
 
@@ -129,6 +223,46 @@ mod tests {
         assert_eq!(rt; folder.load_faults, 1);
         assert_eq!(rt; folder.get("g").ok_or("g")?, b"abc".as_slice());
         assert_eq!(rt; folder.get("h").is_none(), true);
+        Ok(())
+    }
+
+    #[test]
+    fn a_listed_create_keeps_what_stood(rt: HostRuntime) -> Result<(), Fail> {
+        let alloc = rt.alloc();
+        let mut folder = MemoryFolder::new(alloc, [2].to_vec(alloc)?);
+        folder.put("g", b"abc")?;
+        assert_eq!(rt; folder.create("h"), Ok(()));
+        assert_eq!(rt; folder.create("g"), Err(WriteErr::Failed));
+        assert_eq!(rt; folder.get("h").ok_or("h")?, b"".as_slice());
+        assert_eq!(rt; folder.get("g").ok_or("g")?, b"abc".as_slice());
+        assert_eq!(rt; folder.create("g"), Ok(()));
+        assert_eq!(rt; folder.get("g").ok_or("g")?, b"".as_slice());
+        assert_eq!(rt; folder.store_faults, 1);
+        assert_eq!(rt; folder.load_faults, 0);
+        assert_eq!(rt; folder.calls, 3);
+        Ok(())
+    }
+
+    #[test]
+    fn a_listed_append_adds_nothing(rt: HostRuntime) -> Result<(), Fail> {
+        let alloc = rt.alloc();
+        let mut folder = MemoryFolder::new(alloc, [3].to_vec(alloc)?);
+        for (call, bytes, want, held) in [
+            (2, "ab", Ok(()), "ab"),
+            (3, "cd", Err(WriteErr::Failed), "ab"),
+            (4, "e", Ok(()), "abe"),
+        ] {
+            if call == 2 {
+                assert_eq!(rt; folder.create("g"), Ok(()));
+            }
+            assert_eq!(rt; folder.append("g", bytes.as_bytes()), want, "at {call}");
+            assert_eq!(rt; folder.get("g").ok_or("g")?, held.as_bytes(), "at {call}");
+            assert_eq!(rt; folder.calls, call, "at {call}");
+        }
+        assert_eq!(rt; folder.append("missing", b"xy"), Ok(()));
+        assert_eq!(rt; folder.get("missing").ok_or("missing")?, b"xy".as_slice());
+        assert_eq!(rt; folder.store_faults, 1);
+        assert_eq!(rt; folder.load_faults, 0);
         Ok(())
     }
 }

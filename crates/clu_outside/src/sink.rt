@@ -4,10 +4,10 @@ ghost use Rattle.clu_outside.specs.Sink.{TakesPrefix, TakesWhole, WriteCause};
 
 use std::alloc::AllocError;
 
-/// Why bytes were not taken.
+/// Why a sink didn't take bytes, or a folder didn't store them.
 #[derive(Clone, Copy, Debug, PartialEq, Eq)]
 pub enum WriteErr {
-    /// The sink met a fault.
+    /// The sink or the folder met a fault.
     Failed,
     /// Want of memory.
     Memory,
