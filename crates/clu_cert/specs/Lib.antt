@@ -1,0 +1,11 @@
+pub mod Cut
+pub mod Faults
+pub mod Fits
+pub mod ItemLines
+pub mod Numbers
+pub mod Reading
+pub mod Reads
+pub mod Table
+pub mod Text
+pub mod Upper
+pub mod Valid

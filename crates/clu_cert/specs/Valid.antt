@@ -1,0 +1,119 @@
+-- Which certificates are valid for a problem and its rules.
+use Rattle.std.specs.Prelude.{◌≡◌, ◌⊎◌, ℕ, ◌<◌, ◌^◌, ℤ, pos, ◌≤ℤ◌, List, [], ◌∷◌, ◌++◌, Bool, true, false, ◌==◌, ◌&&◌, ◌||◌, All, Contains, length, slice_index, map, filter}
+use Rattle.std.specs.Int.{int_min}
+use Rattle.clu_partition.specs.Sums.{total}
+use Rattle.clu_partition.specs.Pairs.{weight_of}
+use Rattle.clu_partition.specs.Partition.{below, IsPartition}
+use Rattle.clu_partition.specs.Values.{value_on}
+use Rattle.clu_partition.specs.Closed.{Closed, joins}
+use Rattle.clu_objective.specs.Problem.{Posed, printed, IsBetterOrEqual}
+use Rattle.clu_state.specs.State.{State, undecided, decided, leader, are_apart, group_weight}
+use Rattle.clu_state.specs.declared.decision.Decision.{Decision}
+use Rattle.clu_reduce.specs.Reduction.{Holds, decision_of}
+use Rattle.clu_reduce.specs.declared.step.Step.{Step}
+use Rattle.clu_cert.specs.Upper.{HasUpper}
+use Rattle.clu_cert.specs.declared.certificate.Certificate.{Certificate}
+use Rattle.clu_cert.specs.declared.certificate.Proof.{Proof}
+
+-- ---- the partition
+-- the objective and the number of labels are the problem's
+pub record HasShape (problem : Posed) (cert : Certificate) : Type 0 where
+  pub objective : cert.objective ≡ problem.objective
+  pub one_each : length cert.labels ≡ problem.pairs.n
+
+-- the two vertices share a block where the rules tie them, and don't where the rules keep their groups apart
+pub record Obeys (start : Closed) (labels : List ℕ) (u v : ℕ) : Type 0 where
+  pub tied : slice_index start.group u ≡ slice_index start.group v → slice_index labels u ≡ slice_index labels v
+  pub apart : joins (slice_index start.group) start.forbidden u v ≡ true → slice_index labels u ≡ slice_index labels v → ⊥
+
+abbrev pub ObeyRules : ℕ → Closed → List ℕ → Type 0
+ObeyRules n start labels = (u v : ℕ) → u < v → v < n → Obeys start labels u v
+
+-- the printed objective of the labels
+abbrev pub printed_value : Posed → List ℕ → ℤ
+printed_value problem labels = printed problem (value_on (weight_of problem.pairs) (slice_index labels) (below problem.pairs.n))
+
+-- ---- the root
+-- the state of all vertices without decisions
+abbrev pub whole : Posed → Closed → State
+whole problem start = undecided problem.pairs start (below problem.pairs.n)
+
+-- each step holds after those before it
+abbrev pub AllHold : State → List Step → Type 0
+AllHold s [] = Unit {0}
+AllHold s (step ∷ steps) = Holds s step × AllHold (decided s (decision_of step)) steps
+
+-- the state after the steps
+abbrev pub stepped : State → List Step → State
+stepped s [] = s
+stepped s (step ∷ steps) = stepped (decided s (decision_of step)) steps
+
+-- ---- the parts
+abbrev pub Rises : List ℕ → Type 0
+Rises part = (i j : ℕ) → i < j → j < length part → slice_index part i < slice_index part j
+
+abbrev pub Lacks : List ℕ → ℕ → Type 0
+Lacks part v = Contains part v → ⊥
+
+-- The part is nonempty and rising, has members alone and none of an earlier part, divides no group, and has no free pair of
+-- positive weight to a group outside it.
+pub record IsPart (s : State) (earlier : List (List ℕ)) (part : List ℕ) : Type 0 where
+  pub nonempty : 0 < length part
+  pub rising : Rises part
+  pub members : All (Contains s.members) part
+  pub new : All (λ other. All (Lacks other) part) earlier
+  pub undivided : (u v : ℕ) → Contains part u → Contains s.members v → leader s u ≡ leader s v → Contains part v
+  pub settled : (u v : ℕ) → Contains part u → Contains s.members v → Lacks part v
+      → (are_apart s u v ≡ true) ⊎ (group_weight s u v ≤ℤ pos 0)
+
+-- each is a part beside those before it
+abbrev pub AllParts : State → List (List ℕ) → List (List ℕ) → Type 0
+AllParts s earlier [] = Unit {0}
+AllParts s earlier (part ∷ parts) = IsPart s earlier part × AllParts s (earlier ++ part ∷ []) parts
+
+-- each member is in a part
+abbrev pub Cover : State → List (List ℕ) → Type 0
+Cover s parts = All (λ v. (part : List ℕ) × Contains parts part × Contains part v) s.members
+
+abbrev pub parts_of : Certificate → List (List ℕ)
+parts_of cert = map (λ proof. proof.part) cert.proofs
+
+-- ---- the proofs of the parts
+abbrev pub is_in : List ℕ → ℕ → Bool
+is_in [] v = false
+is_in (u ∷ part) v = u == v || is_in part v
+
+-- what the steps decide within the part
+abbrev pub decisions_within : List ℕ → List Step → List Decision
+decisions_within part steps = map decision_of (filter (λ step. is_in part step.u && is_in part step.v) steps)
+
+-- the state from which the items of a part are read: its vertices, with the decisions of the root steps within it
+abbrev pub part_state : Posed → Closed → List Step → List ℕ → State
+part_state problem start steps part =
+    record { pairs = problem.pairs; start = start; members = part; decisions = decisions_within part steps }
+
+-- the proofs have these uppers, one each
+abbrev pub HaveUppers : Posed → Closed → List Step → List Proof → List ℤ → Type 0
+HaveUppers problem start steps [] [] = Unit {0}
+HaveUppers problem start steps [] (upper ∷ uppers) = ⊥
+HaveUppers problem start steps (proof ∷ proofs) [] = ⊥
+HaveUppers problem start steps (proof ∷ proofs) (upper ∷ uppers) =
+    HasUpper (part_state problem start steps proof.part) proof.items upper × HaveUppers problem start steps proofs uppers
+
+-- The printed sum of the uppers. No value passes 2 ^ 88, so a larger sum says no more than that.
+abbrev pub proved_bound : Posed → List ℤ → ℤ
+proved_bound problem uppers = printed problem (int_min (total (λ upper. upper) uppers) (pos (2 ^ 88)))
+
+-- ---- the whole
+-- The conditions of a valid certificate, in the order in which they are tried.
+pub record IsValid (problem : Posed) (start : Closed) (cert : Certificate) : Type 0 where
+  pub shape : HasShape problem cert
+  pub partition : IsPartition problem.pairs.n cert.labels
+  pub rules : ObeyRules problem.pairs.n start cert.labels
+  pub value : cert.value ≡ printed_value problem cert.labels
+  pub steps : AllHold (whole problem start) cert.root_steps
+  pub parts : AllParts (stepped (whole problem start) cert.root_steps) [] (parts_of cert)
+  pub cover : Cover (stepped (whole problem start) cert.root_steps) (parts_of cert)
+  pub uppers : List ℤ
+  pub proved : HaveUppers problem start cert.root_steps cert.proofs uppers
+  pub bound : IsBetterOrEqual problem.objective cert.bound (proved_bound problem uppers)
