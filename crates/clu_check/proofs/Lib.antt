@@ -1,0 +1,15 @@
+pub mod Checked
+pub mod Excluded
+pub mod Giving
+pub mod ItemFaults
+pub mod Judged
+pub mod Membership
+pub mod Numbered
+pub mod Obeyed
+pub mod Parting
+pub mod Rising
+pub mod SameValue
+pub mod Summing
+pub mod TakePart
+pub mod TreePaths
+pub mod TreeReads

@@ -1,0 +1,30 @@
+-- Which vertices the parts so far have, as a table says it: each vertex has the number of its part, or 0.
+use Rattle.std.specs.Prelude.{◌≡◌, ◌≢◌, ◌⊎◌, ℕ, ◌<◌, ◌≤◌, pos, ◌≤ℤ◌, List, true, length, slice_index, All, Contains, if◌then◌else◌}
+use Rattle.clu_state.specs.State.{State, leader, are_apart, group_weight}
+use Rattle.clu_cert.specs.Valid.{Lacks, Rises, is_in}
+
+-- the vertices without a number are in no part, each other one is in a part, and no number passes that of the parts
+pub record AreOwned (earlier : List (List ℕ)) (owner : List ℕ) : Type 0 where
+  pub without : (v : ℕ) → v < length owner → slice_index owner v ≡ 0 → All (λ part. Lacks part v) earlier
+  pub given : (v : ℕ) → v < length owner → slice_index owner v ≢ 0 → (part : List ℕ) × Contains earlier part × Contains part v
+  pub numbers : (v : ℕ) → v < length owner → slice_index owner v ≤ length earlier
+
+-- the vertices of the part have this number, and the others what they had
+pub record IsGiven (part : List ℕ) (number : ℕ) (old new : List ℕ) : Type 0 where
+  pub size : length new ≡ length old
+  pub cells : (v : ℕ) → v < length old → slice_index new v ≡ (if is_in part v then number else slice_index old v)
+
+-- u and v are of two groups, and these are apart or gain nothing from sharing a block
+pub record IsSettled (s : State) (u v : ℕ) : Type 0 where
+  pub differ : leader s u ≢ leader s v
+  pub idle : (are_apart s u v ≡ true) ⊎ (group_weight s u v ≤ℤ pos 0)
+
+-- u is settled with each member without the number
+abbrev pub IsSettledWith : State → List ℕ → ℕ → ℕ → Type 0
+IsSettledWith s owner number u = All (λ v. (slice_index owner v ≡ number) ⊎ IsSettled s u v) s.members
+
+-- the part isn't empty, rises, and has vertices without a number alone
+pub record MayBePart (owner part : List ℕ) : Type 0 where
+  pub nonempty : 0 < length part
+  pub rising : Rises part
+  pub free : All (λ v. (v < length owner) × (slice_index owner v ≡ 0)) part
