@@ -1,5 +1,6 @@
 -- The edits of a partition are its printed number, and so the printed bound is one of edits.
-use Rattle.std.proofs.Common.{◌≡◌, ◌↔◌, ℕ, ℤ, pos, ◌≤ℤ◌, List, Bool, true, false, IsTrue, slice_index, refl, ◌∙◌, ap, subst, arith, if◌then◌else◌}
+use Rattle.std.proofs.Common.{◌≡◌, ◌↔◌, ℕ, ℤ, pos, ◌≤ℤ◌, ◌≤◌, ◌^◌, unsigned_abs, List, Bool, true, false, IsTrue, slice_index, refl, ◌∙◌, ap, subst, arith, if◌then◌else◌}
+use Rattle.std.proofs.lemmas.Int.{ints}
 use Rattle.clu_partition.specs.Pairs.{weight_of}
 use Rattle.clu_partition.specs.Partition.{below, IsPartition}
 use Rattle.clu_partition.specs.Values.{value_on}
@@ -27,3 +28,7 @@ zero_where false P h = ((λ e. absurd (omega (arith, e))), (λ p. absurd (none (
   where
     none : IsTrue false → ⊥
     none e = cc
+
+-- a value within a total of that size can be printed
+pub within_total : (v total : ℤ) → pos (unsigned_abs v) ≤ℤ total → total ≤ℤ pos (2 ^ 88) → unsigned_abs v ≤ 2 ^ 88
+within_total v total within small = omega (arith, ints, within, small)

@@ -1,36 +1,21 @@
--- The words and the file decide the status: each cause excludes the others.
-use Rattle.std.proofs.Common.{◌≡◌, ℕ, ◌<◌, ◌≤◌, List, [], ◌∷◌, length, inl, inr, sym, ◌∙◌, subst, arith, Some, None}
-use Rattle.std.specs.Prelude.{Option, String, IfSome, IsSomeAnd, IsTrue, codes}
+-- The command and the files decide the status: each cause excludes the others.
+use Rattle.std.proofs.Common.{◌≡◌, ℕ, ◌≤◌, ◌<◌, List, length, refl, sym, ◌∙◌, subst, arith, inl, inr, Option, Some, None, Bool, true, false, Ok, Err}
+use Rattle.std.specs.Prelude.{Result, IfSome, IsSomeAnd, String}
 use Rattle.std.specs.Global.{Global}
-use Rattle.std.proofs.lemmas.Bool.{cases_eq, cases_lt}
-use Rattle.std.proofs.lemmas.Bool.Decides.{nat_tests}
-use Rattle.clu_outside.specs.Folder.{Told}
+use Rattle.clu_outside.specs.Folder.{Told, Holds, HoldsMore, Lacks}
 use Rattle.clu_pace.specs.Graph.{PaceGraph}
 use Rattle.clu_pace.specs.Pace.{IsAccepted}
-use Rattle.clu_cli.specs.Headline.{PrintsAnswer, IsAbsent, IsCutShort, IsDecided, IsLoaded, IsRefused, IsTooLong, max_bytes}
-use Rattle.clu_cli.specs.Status.{is_status}
-use Rattle.clu_cli.specs.Words.{IsSolve}
+use Rattle.clu_pace.proofs.Whole.{one_graph}
+use Rattle.clu_cert.specs.Fits.{Fits}
+use Rattle.clu_cert.specs.Text.{text}
+use Rattle.clu_cert.specs.declared.certificate.Certificate.{Certificate}
+use Rattle.clu_cli.specs.Headline.{Certifies, Ends, IsAbsent, IsCutShort, IsDecided, IsGraph, IsLoaded, IsProven, IsRefused, IsSolvable, IsTooLong, IsTurnedDown, Prints, Reports, max_bytes}
+use Rattle.clu_cli.specs.Status.{end_status}
+use Rattle.clu_cli.specs.Words.{Asked, Command, solve, check, graph_file}
+use Rattle.clu_cli.specs.declared.stop.Stop.{Stop}
+use Rattle.clu_cli.specs.declared.stop.Stop.TheVariants.{BadText, Rejected, Refused, Words, ReadFault, WriteFault, Memory, TooLong, NoFile}
 
--- what a run says of its status
-pub record Causes (words : List (String Global)) (told : Option Told) (old new : Option (List ℕ)) (status : ℕ) : Type 0 where
-  pub answers : status ≤ 1 → PrintsAnswer words told old new status
-  pub refused : status ≡ 4 → IsRefused words told
-  pub wrong_words : status ≡ 6 → (file : List ℕ) → IsSolve words file → ⊥
-  pub cut_short : status ≡ 8 → IsCutShort words told old new
-  pub too_long : status ≡ 10 → IsTooLong words told
-  pub absent : status ≡ 11 → IsAbsent words told
-  pub known : IsTrue (is_status status)
-
--- a status is one of these
-no_other : (status : ℕ) → IsTrue (is_status status) → 2 ≤ status → (status ≡ 4 → ⊥) → (status ≡ 6 → ⊥) → (status ≡ 7 → ⊥) → (status ≡ 8 → ⊥) → (status ≡ 9 → ⊥)
-    → (status ≡ 10 → ⊥) → (status ≡ 11 → ⊥) → ⊥
-no_other status known high not_four not_six not_seven not_eight not_nine not_ten not_eleven = grind (arith, nat_tests)
-
--- the words name one file
-one_file : (words : List (String Global)) (file other : List ℕ) → IsSolve words file → IsSolve words other → other ≡ file
-one_file words file other this that =
-    let e : codes "solve" ∷ other ∷ [] ≡ codes "solve" ∷ file ∷ [] = sym that.words_are ∙ this.words_are in cc
-
+-- ---- of one name
 not_none : (held : Option (List ℕ)) (P : List ℕ → Type 0) → held ≡ None → IsSomeAnd held P → ⊥
 not_none held P is some = subst (λ (h : Option (List ℕ)). IsSomeAnd h P) is some
 
@@ -38,102 +23,225 @@ not_longer : (held : Option (List ℕ)) (bytes : List ℕ) → held ≡ Some byt
 not_longer held bytes is small longer =
     let long : max_bytes < length bytes = subst (λ (h : Option (List ℕ)). IsSomeAnd h (λ bs. max_bytes < length bs)) is longer in omega (arith, long, small)
 
-module _ (words : List (String Global)) (t : Told) (old new : Option (List ℕ)) (status : ℕ) (c : Causes words (Some t) old new status) where
-  by_status : {G : Type 0} → (status ≤ 1 → G) → (status ≡ 4 → G) → (status ≡ 6 → G) → (status ≡ 7 → G) → (status ≡ 8 → G) → (status ≡ 9 → G) → (status ≡ 10 → G)
-      → (status ≡ 11 → G) → G
-  by_status low four six seven eight nine ten eleven = elim (cases_lt status 2) [
-    | inl h ↦ low (omega arith)
-    | inr high ↦ elim (cases_eq status 4) [
-      | inl e ↦ four e
-      | inr not_four ↦ elim (cases_eq status 6) [
-        | inl e ↦ six e
-        | inr not_six ↦ elim (cases_eq status 7) [
-          | inl e ↦ seven e
-          | inr not_seven ↦ elim (cases_eq status 8) [
-            | inl e ↦ eight e
-            | inr not_eight ↦ elim (cases_eq status 9) [
-              | inl e ↦ nine e
-              | inr not_nine ↦ elim (cases_eq status 10) [
-                | inl e ↦ ten e
-                | inr not_ten ↦ elim (cases_eq status 11) [
-                  | inl e ↦ eleven e
-                  | inr not_eleven ↦ absurd (no_other status c.known high not_four not_six not_seven not_eight not_nine not_ten not_eleven)
-                ]
-              ]
-            ]
-          ]
-        ]
-      ]
-    ]
-  ]
+same_bytes : (held : Option (List ℕ)) (bytes others : List ℕ) → held ≡ Some bytes → held ≡ Some others → others ≡ bytes
+same_bytes held bytes others is are = let e : Some others ≡ Some bytes = sym are ∙ is in cc
 
-  -- what the folder holds under the name that the words give
-  held_here : (file bytes : List ℕ) → IsSolve words file → IsLoaded words (Some t) bytes → t.held file ≡ Some bytes
-  held_here file bytes is l = subst (λ (name : List ℕ). t.held name ≡ Some bytes) (one_file words file l.file is l.words_are) l.held
+held_or_lacks : (held : Option (List ℕ)) (bytes : List ℕ) → held ≡ Some bytes → held ≡ None → ⊥
+held_or_lacks held bytes is none = let e : None ≡ Some bytes = sym none ∙ is in cc
 
-  lacks_here : (file : List ℕ) → IsSolve words file → IsAbsent words (Some t) → t.held file ≡ None
-  lacks_here file is a = subst (λ (name : List ℕ). t.held name ≡ None) (one_file words file a.file is a.words_are) a.absent
+-- which command a report cut short is of
+no_check : (file name other certificate : List ℕ) → check file name ≡ solve other (Some certificate) → ⊥
+no_check file name other certificate e = cc
 
-  longer_here : (file : List ℕ) → IsSolve words file → IsTooLong words (Some t) → IsSomeAnd (t.held file) (λ bs. max_bytes < length bs)
-  longer_here file is a = subst (λ (name : List ℕ). IsSomeAnd (t.held name) (λ bs. max_bytes < length bs)) (one_file words file a.file is a.words_are) a.longer
+same_file : (file other : List ℕ) (certificate given : Option (List ℕ)) → solve file certificate ≡ solve other given → other ≡ file
+same_file file other certificate given e = cc
 
-  same_bytes : (bytes others : List ℕ) → IsLoaded words (Some t) bytes → IsLoaded words (Some t) others → others ≡ bytes
-  same_bytes bytes others l m = let e : Some others ≡ Some bytes = sym (held_here l.file others l.words_are m) ∙ l.held in cc
+-- the graph is one, and the certificate's file is there
+abbrev IsReady : Told → Command → Type 0
+IsReady t (solve file certificate) = (graph : PaceGraph) × IsGraph file (Some t) graph
+IsReady t (check file name) = (graph : PaceGraph) × IsGraph file (Some t) graph × (bytes : List ℕ) × Holds (Some t) name bytes
 
-  loaded_or_absent : (bytes : List ℕ) → IsLoaded words (Some t) bytes → IsAbsent words (Some t) → ⊥
-  loaded_or_absent bytes l a = let e : None ≡ Some bytes = sym (lacks_here l.file l.words_are a) ∙ l.held in cc
+module _ (t : Told) where
+  -- ---- of the graph's file
+  graph_or_lacks : (file : List ℕ) (graph : PaceGraph) → IsGraph file (Some t) graph → Lacks (Some t) file → ⊥
+  graph_or_lacks file graph g lacks = held_or_lacks (t.held file) g.bytes g.loaded.held lacks
 
-  loaded_or_longer : (bytes : List ℕ) → IsLoaded words (Some t) bytes → IsTooLong words (Some t) → ⊥
-  loaded_or_longer bytes l a = not_longer (t.held l.file) bytes l.held l.small (longer_here l.file l.words_are a)
+  loaded_or_longer : (file bytes : List ℕ) → IsLoaded file (Some t) bytes → HoldsMore (Some t) file max_bytes → ⊥
+  loaded_or_longer file bytes l longer = not_longer (t.held file) bytes l.held l.small longer
 
-  absent_or_longer : IsAbsent words (Some t) → IsTooLong words (Some t) → ⊥
-  absent_or_longer a b = not_none (t.held a.file) (λ bs. max_bytes < length bs) a.absent (longer_here a.file a.words_are b)
+  graph_or_refused : (command : Command) (graph : PaceGraph) → IsGraph (graph_file command) (Some t) graph → IsRefused command (Some t) → ⊥
+  graph_or_refused command graph g r =
+      r.no_graph graph (subst (λ (bs : List ℕ). IsAccepted bs graph) (same_bytes (t.held (graph_file command)) r.bytes g.bytes r.loaded.held g.loaded.held) g.accepted)
 
-  readable_or_refused : (bytes : List ℕ) (graph : PaceGraph) → IsLoaded words (Some t) bytes → IsAccepted bytes graph → IsRefused words (Some t) → ⊥
-  readable_or_refused bytes graph l accepted r =
-      r.no_graph graph (subst (λ (bs : List ℕ). IsAccepted bs graph) (same_bytes r.bytes bytes r.loaded l) accepted)
+  same_graph : (file : List ℕ) (graph other : PaceGraph) → IsGraph file (Some t) graph → IsGraph file (Some t) other → other ≡ graph
+  same_graph file graph other g h = one_graph g.bytes graph other g.accepted
+      (subst (λ (bs : List ℕ). IsAccepted bs other) (same_bytes (t.held file) g.bytes h.bytes g.loaded.held h.loaded.held) h.accepted)
 
-  decided : IsDecided words (Some t) status
-  decided = record {
-    absent = λ a. by_status
-        (λ h. absurd (loaded_or_absent _ (c.answers h).loaded a))
-        (λ e. absurd (loaded_or_absent _ (c.refused e).loaded a))
-        (λ e. absurd (c.wrong_words e a.file a.words_are))
-        (λ e. inr (inl e))
-        (λ e. absurd (loaded_or_absent _ (c.cut_short e).loaded a))
-        (λ e. inr (inr e))
-        (λ e. absurd (absent_or_longer a (c.too_long e)))
-        (λ e. inl e);
-    too_long = λ a. by_status
-        (λ h. absurd (loaded_or_longer _ (c.answers h).loaded a))
-        (λ e. absurd (loaded_or_longer _ (c.refused e).loaded a))
-        (λ e. absurd (c.wrong_words e a.file a.words_are))
-        (λ e. inr (inl e))
-        (λ e. absurd (loaded_or_longer _ (c.cut_short e).loaded a))
-        (λ e. inr (inr e))
-        (λ e. inl e)
-        (λ e. absurd (absent_or_longer (c.absent e) a));
-    refused = λ a. by_status
-        (λ h. absurd (readable_or_refused _ _ (c.answers h).loaded (c.answers h).answer.accepted a))
-        (λ e. inl e)
-        (λ e. absurd (c.wrong_words e a.loaded.file a.loaded.words_are))
-        (λ e. inr (inl e))
-        (λ e. absurd (readable_or_refused _ _ (c.cut_short e).loaded (c.cut_short e).answer.accepted a))
-        (λ e. inr (inr e))
-        (λ e. absurd (loaded_or_longer _ a.loaded (c.too_long e)))
-        (λ e. absurd (loaded_or_absent _ a.loaded (c.absent e)));
-    readable = λ a. by_status
-        (λ h. inl h)
-        (λ e. absurd (readable_or_refused _ _ a.loaded a.accepted (c.refused e)))
-        (λ e. absurd (c.wrong_words e a.loaded.file a.loaded.words_are))
-        (λ e. inr (inl e))
-        (λ e. inr (inr (inl e)))
-        (λ e. inr (inr (inr e)))
-        (λ e. absurd (loaded_or_longer _ a.loaded (c.too_long e)))
-        (λ e. absurd (loaded_or_absent _ a.loaded (c.absent e)));
-  }
+  -- ---- of all files
+  graph_of : (command : Command) → IsReady t command → (graph : PaceGraph) × IsGraph (graph_file command) (Some t) graph
+  graph_of (solve file certificate) r = r
+  graph_of (check file name) r = (r.0, r.1)
 
-pub decided_where_told : (words : List (String Global)) (told : Option Told) (old new : Option (List ℕ)) (status : ℕ) → Causes words told old new status
-    → IfSome told (λ t. IsDecided words (Some t) status)
-decided_where_told words None old new status c = tt
-decided_where_told words (Some t) old new status c = decided words t old new status c
+  ready_or_absent : (command : Command) → IsReady t command → IsAbsent command (Some t) → ⊥
+  ready_or_absent (solve file certificate) r a = graph_or_lacks file r.0 r.1 a
+  ready_or_absent (check file name) r (inl a) = graph_or_lacks file r.0 r.1 a
+  ready_or_absent (check file name) r (inr a) = held_or_lacks (t.held name) r.2 r.3 a.2
+
+  ready_or_longer : (command : Command) → IsReady t command → IsTooLong command (Some t) → ⊥
+  ready_or_longer command r a = let g = graph_of command r in loaded_or_longer (graph_file command) g.1.bytes g.1.loaded a
+
+  ready_or_refused : (command : Command) → IsReady t command → IsRefused command (Some t) → ⊥
+  ready_or_refused command r a = let g = graph_of command r in graph_or_refused command g.0 g.1 a
+
+  absent_or_longer : (command : Command) → IsAbsent command (Some t) → IsTooLong command (Some t) → ⊥
+  absent_or_longer (solve file certificate) a b = not_none (t.held file) (λ bs. max_bytes < length bs) a b
+  absent_or_longer (check file name) (inl a) b = not_none (t.held file) (λ bs. max_bytes < length bs) a b
+  absent_or_longer (check file name) (inr a) b = loaded_or_longer file a.1.bytes a.1.loaded b
+
+  absent_or_refused : (command : Command) → IsAbsent command (Some t) → IsRefused command (Some t) → ⊥
+  absent_or_refused (solve file certificate) a r = held_or_lacks (t.held file) r.bytes r.loaded.held a
+  absent_or_refused (check file name) (inl a) r = held_or_lacks (t.held file) r.bytes r.loaded.held a
+  absent_or_refused (check file name) (inr a) r = graph_or_refused (check file name) a.0 a.1 r
+
+  longer_or_refused : (command : Command) → IsTooLong command (Some t) → IsRefused command (Some t) → ⊥
+  longer_or_refused command a r = loaded_or_longer (graph_file command) r.bytes r.loaded a
+
+  solvable_or_turned_down : (command : Command) → IsSolvable command (Some t) → IsTurnedDown command (Some t) → ⊥
+  solvable_or_turned_down (solve file certificate) s h = absurd h
+  solvable_or_turned_down (check file name) s h = absurd s
+
+  -- ---- who is ready
+  turned_down_ready : (command : Command) → IsTurnedDown command (Some t) → IsReady t command
+  turned_down_ready (solve file certificate) h = absurd h
+  turned_down_ready (check file name) h = (h.0, h.1, h.2, h.3)
+
+  proven_ready : (command : Command) → IsProven command (Some t) → IsReady t command
+  proven_ready (solve file certificate) h = absurd h
+  proven_ready (check file name) h = (h.0, h.1, text h.2, h.4)
+
+  solvable_ready : (command : Command) → IsSolvable command (Some t) → IsReady t command
+  solvable_ready (solve file certificate) h = h
+  solvable_ready (check file name) h = absurd h
+
+  reports_ready : (command : Command) (after : Option Told) (printed : List ℕ) (status : ℕ) → Reports command (Some t) after printed status → IsReady t command
+  reports_ready (solve file certificate) after printed status h =
+      (h.answer.graph, record { bytes = h.bytes; loaded = h.loaded; accepted = h.answer.accepted })
+  reports_ready (check file name) after printed status h =
+      (h.graph, record { bytes = h.bytes; loaded = h.loaded; accepted = h.read }, h.certificate, h.held)
+
+  cut_short_ready : (command : Command) (after : Option Told) (old new : Option (List ℕ)) → IsCutShort command (Some t) after old new → IsReady t command
+  cut_short_ready (solve file certificate) after old new (inl h) =
+      (h.answer.graph, record { bytes = h.bytes; loaded = subst (λ (name : List ℕ). IsLoaded name (Some t) h.bytes) (same_file file h.file certificate (Some h.name) h.command_is) h.loaded; accepted = h.answer.accepted })
+  cut_short_ready (check file name) after old new (inl h) = absurd (no_check file name h.file h.name h.command_is)
+  cut_short_ready command after old new (inr h) = reports_ready command after h.printed h.status h.reports
+
+  -- ---- valid or not
+  certified_or_not : (file name : List ℕ) (graph : PaceGraph) (cert : Certificate) → IsGraph file (Some t) graph → Fits cert → Holds (Some t) name (text cert)
+      → Certifies graph cert → IsTurnedDown (check file name) (Some t) → ⊥
+  certified_or_not file name graph cert g fits held valid h =
+      h.4 cert fits (same_bytes (t.held name) (text cert) h.2 held h.3)
+      (subst (λ (one : PaceGraph). Certifies one cert) (same_graph file h.0 graph h.1 g) valid)
+
+  proven_or_turned_down : (command : Command) → IsProven command (Some t) → IsTurnedDown command (Some t) → ⊥
+  proven_or_turned_down (solve file certificate) p h = absurd h
+  proven_or_turned_down (check file name) p h = certified_or_not file name p.0 p.2 p.1 p.3 p.4 p.5 h
+
+  reports_or_turned_down : (command : Command) (after : Option Told) (printed : List ℕ) (status : ℕ) → Reports command (Some t) after printed status
+      → IsTurnedDown command (Some t) → ⊥
+  reports_or_turned_down (solve file certificate) after printed status r h = absurd h
+  reports_or_turned_down (check file name) after printed status r h =
+      certified_or_not file name r.graph r.proof.cert (record { bytes = r.bytes; loaded = r.loaded; accepted = r.read }) r.proof.fits
+      (subst (λ (bs : List ℕ). t.held name ≡ Some bs) r.proof.read r.held) r.proof.certifies h
+
+  cut_short_or_turned_down : (command : Command) (after : Option Told) (old new : Option (List ℕ)) → IsCutShort command (Some t) after old new
+      → IsTurnedDown command (Some t) → ⊥
+  cut_short_or_turned_down (solve file certificate) after old new r h = absurd h
+  cut_short_or_turned_down (check file name) after old new (inl r) h = absurd (no_check file name r.file r.name r.command_is)
+  cut_short_or_turned_down (check file name) after old new (inr r) h = reports_or_turned_down (check file name) after r.printed r.status r.reports h
+
+  accepted_of : (command : Command) (after : Option Told) (printed : List ℕ) (status : ℕ) → Reports command (Some t) after printed status
+      → IsProven command (Some t) → status ≡ 0
+  accepted_of (solve file certificate) after printed status r p = absurd p
+  accepted_of (check file name) after printed status r p = r.accepted
+
+  -- ---- the status
+  module _ (command : Command) (after : Option Told) (old new : Option (List ℕ)) where
+    printed_decided : (status : ℕ) → status ≤ 1 → Prints command (Some t) after old new status → IsDecided command (Some t) status
+    printed_decided status low h = let ready = reports_ready command after h.printed status h.reports in record {
+      absent = λ a. absurd (ready_or_absent command ready a);
+      too_long = λ a. absurd (ready_or_longer command ready a);
+      refused = λ a. absurd (ready_or_refused command ready a);
+      turned_down = λ a. absurd (reports_or_turned_down command after h.printed status h.reports a);
+      proven = λ p. inl (accepted_of command after h.printed status h.reports p);
+      solvable = λ _. inl low;
+    }
+
+    turned_down_decided : IsTurnedDown command (Some t) → IsDecided command (Some t) 3
+    turned_down_decided h = let ready = turned_down_ready command h in record {
+      absent = λ a. absurd (ready_or_absent command ready a);
+      too_long = λ a. absurd (ready_or_longer command ready a);
+      refused = λ a. absurd (ready_or_refused command ready a);
+      turned_down = λ _. inl refl;
+      proven = λ p. absurd (proven_or_turned_down command p h);
+      solvable = λ s. absurd (solvable_or_turned_down command s h);
+    }
+
+    refused_decided : IsRefused command (Some t) → IsDecided command (Some t) 4
+    refused_decided h = record {
+      absent = λ a. absurd (absent_or_refused command a h);
+      too_long = λ a. absurd (longer_or_refused command a h);
+      refused = λ _. inl refl;
+      turned_down = λ a. absurd (ready_or_refused command (turned_down_ready command a) h);
+      proven = λ p. absurd (ready_or_refused command (proven_ready command p) h);
+      solvable = λ s. absurd (ready_or_refused command (solvable_ready command s) h);
+    }
+
+    read_fault_decided : IsDecided command (Some t) 7
+    read_fault_decided = record {
+      absent = λ _. inr (inl refl);
+      too_long = λ _. inr (inl refl);
+      refused = λ _. inr (inl refl);
+      turned_down = λ _. inr (inl refl);
+      proven = λ _. inr (inl refl);
+      solvable = λ _. inr (inl refl);
+    }
+
+    write_fault_decided : IsCutShort command (Some t) after old new → IsDecided command (Some t) 8
+    write_fault_decided h = let ready = cut_short_ready command after old new h in record {
+      absent = λ a. absurd (ready_or_absent command ready a);
+      too_long = λ a. absurd (ready_or_longer command ready a);
+      refused = λ a. absurd (ready_or_refused command ready a);
+      turned_down = λ a. absurd (cut_short_or_turned_down command after old new h a);
+      proven = λ _. inr (inr (inl refl));
+      solvable = λ _. inr (inr (inl refl));
+    }
+
+    memory_decided : IsDecided command (Some t) 9
+    memory_decided = record {
+      absent = λ _. inr (inr refl);
+      too_long = λ _. inr (inr refl);
+      refused = λ _. inr (inr refl);
+      turned_down = λ _. inr (inr refl);
+      proven = λ _. inr (inr (inr refl));
+      solvable = λ _. inr (inr (inr refl));
+    }
+
+    too_long_decided : IsTooLong command (Some t) → IsDecided command (Some t) 10
+    too_long_decided h = record {
+      absent = λ a. absurd (absent_or_longer command a h);
+      too_long = λ _. inl refl;
+      refused = λ a. absurd (longer_or_refused command h a);
+      turned_down = λ a. absurd (ready_or_longer command (turned_down_ready command a) h);
+      proven = λ p. absurd (ready_or_longer command (proven_ready command p) h);
+      solvable = λ s. absurd (ready_or_longer command (solvable_ready command s) h);
+    }
+
+    absent_decided : IsAbsent command (Some t) → IsDecided command (Some t) 11
+    absent_decided h = record {
+      absent = λ _. inl refl;
+      too_long = λ a. absurd (absent_or_longer command h a);
+      refused = λ a. absurd (absent_or_refused command h a);
+      turned_down = λ a. absurd (ready_or_absent command (turned_down_ready command a) h);
+      proven = λ p. absurd (ready_or_absent command (proven_ready command p) h);
+      solvable = λ s. absurd (ready_or_absent command (solvable_ready command s) h);
+    }
+
+    decided_of : (end : Result Bool Stop) → Ends command (Some t) after old new end → IsDecided command (Some t) (end_status end)
+    decided_of (Ok true) h = printed_decided 0 (omega arith) h
+    decided_of (Ok false) h = printed_decided 1 (omega arith) h
+    decided_of (Err (BadText line)) h = turned_down_decided h.0
+    decided_of (Err (Rejected reject)) h = turned_down_decided h.0
+    decided_of (Err Refused) h = refused_decided h.0
+    decided_of (Err Words) h = absurd h
+    decided_of (Err ReadFault) h = read_fault_decided
+    decided_of (Err WriteFault) h = write_fault_decided h
+    decided_of (Err Memory) h = memory_decided
+    decided_of (Err TooLong) h = too_long_decided h.0
+    decided_of (Err NoFile) h = absent_decided h.0
+
+pub decided_where_told : (words : List (String Global)) (told after : Option Told) (old new : Option (List ℕ)) (end : Result Bool Stop) (status : ℕ)
+    → status ≡ end_status end → Asked words (λ command. Ends command told after old new end)
+    → IfSome told (λ t. Asked words (λ command. IsDecided command (Some t) status))
+decided_where_told words None after old new end status is ends = tt
+decided_where_told words (Some t) after old new end status is ends = λ command asked.
+    subst (λ (n : ℕ). IsDecided command (Some t) n) (sym is) (decided_of t command after old new end (ends command asked))

@@ -1,7 +1,12 @@
 pub mod Answered
-pub mod Causes
+pub mod Asked
+pub mod Certified
+pub mod Checking
 pub mod Decided
+pub mod Ends
 pub mod FirstTwin
+pub mod Keeping
+pub mod Lines
 pub mod PackedBound
 pub mod Printing
 pub mod Prints

@@ -1,5 +1,5 @@
 -- The bound of a packing of the state of all vertices.
-use Rattle.std.proofs.Common.{◌≡◌, ℕ, ℤ, ◌≤ℤ◌, ◌+◌, ◌*◌, ◌^◌, Result, Err, List, length, slice_index, sym, ap, ◌∙◌, subst, arith}
+use Rattle.std.proofs.Common.{◌≡◌, ℕ, ℤ, ◌≤ℤ◌, ◌≤◌, ◌+◌, ◌*◌, ◌^◌, Result, Err, List, length, slice_index, sym, ap, ◌∙◌, subst, arith, unsigned_abs}
 use Rattle.std.proofs.lemmas.List.Elements.{All-take}
 use Rattle.std.proofs.lemmas.List.Sums.{sum_by-take-le}
 use Rattle.clu_rows.specs.declared.row.LeafFault.{LeafFault}
@@ -13,8 +13,11 @@ use Rattle.clu_state.specs.State.{State, AreMembers, InClass, undecided}
 use Rattle.clu_rows.specs.Faults.{AreRows, IsRow, IsDenominator, IsFirstFault}
 use Rattle.clu_rows.specs.Packing.{IsPacking, IsMaximal}
 use Rattle.clu_rows.specs.Rows.{TwoSet, leaf_bound_of}
-use Rattle.clu_cli.specs.PackingBound.{whole, IsPackingBound}
-use Rattle.clu_cli.proofs.WholeState.{members_all, all_in_class, printed_better}
+use Rattle.clu_rows.specs.declared.row.Leaf.{Leaf}
+use Rattle.clu_cert.specs.Valid.{whole}
+use Rattle.clu_cli.specs.PackingBound.{IsPackingBound, ProvesBound}
+use Rattle.clu_objective.proofs.Better.{printed_better}
+use Rattle.clu_cli.proofs.WholeState.{members_all, all_in_class}
 
 -- the list of all vertices is that of the members
 pub members_of : (start : Closed) (n : ℕ) (list vertices : List ℕ) → IsOpen n start → list ≡ vertices → vertices ≡ below n → AreMembers start list
@@ -34,6 +37,17 @@ module _ (problem : Posed) (start : Closed) (state : State) (rows : List TwoSet)
     packing = subst (λ (s : State). IsPacking s rows) same packing;
     maximal = subst (λ (s : State). IsMaximal s rows) same maximal;
     bound_is = e ∙ ap (printed problem) (is ∙ ap (λ (s : State). leaf_bound_of s 1 rows) same);
+  }
+
+  pub proves_bound : (leaf : Leaf) (v z : ℤ) → leaf.den ≡ 1 → AreRows state leaf.rows → unsigned_abs (leaf_bound_of state 1 leaf.rows) ≤ 2 ^ 88 →
+      v ≡ leaf_bound_of state leaf.den leaf.rows → z ≡ printed problem v → ProvesBound problem leaf z
+  proves_bound leaf v z one are small is e = record {
+    start = start;
+    unbound = free;
+    bounds = record { den = (omega (arith, one), omega (arith, one)); rows = subst (λ (s : State). AreRows s leaf.rows) same are };
+    small = subst (λ (s : State). unsigned_abs (leaf_bound_of s leaf.den leaf.rows) ≤ 2 ^ 88) same
+        (subst (λ (d : ℕ). unsigned_abs (leaf_bound_of state d leaf.rows) ≤ 2 ^ 88) (sym one) small);
+    bound_is = e ∙ ap (printed problem) (is ∙ ap (λ (s : State). leaf_bound_of s leaf.den leaf.rows) same);
   }
 
   pub none_better : (v z : ℤ) → IsPosed problem → ((label : ℕ → ℕ) → InClass state label → value_on (weight_of state.pairs) label state.members ≤ℤ v) → z ≡ printed problem v →

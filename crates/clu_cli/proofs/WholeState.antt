@@ -1,17 +1,14 @@
 -- The state of all vertices without rules and decisions: its members, and each partition is of its class.
-use Rattle.std.proofs.Common.{◌≡◌, ◌⊎◌, ⊎_elim, ℕ, ℤ, pos, ◌+ℤ◌, ◌*ℤ◌, ◌≤ℤ◌, ◌<◌, slice_index, Contains, All, sym, ap, subst, arith}
-use Rattle.std.proofs.lemmas.Int.{ints}
+use Rattle.std.proofs.Common.{◌≡◌, ℕ, ◌<◌, slice_index, Contains, All, sym, ap, subst, arith}
 use Rattle.std.proofs.lemmas.List.Elements.{All-nil, All-from_get_or}
 use Rattle.clu_partition.specs.Closed.{Closed, IsOpen}
 use Rattle.clu_partition.specs.Partition.{below}
 use Rattle.clu_partition.proofs.Ranges.{below_size, below_at}
-use Rattle.clu_objective.specs.Problem.{Posed, printed, IsBetterOrEqual, HasFactor}
-use Rattle.clu_objective.specs.declared.objective.Objective.{Objective}
-use Rattle.clu_objective.specs.declared.objective.Objective.TheVariants.{Edits, Agreement, Modularity}
+use Rattle.clu_objective.specs.Problem.{Posed}
 use Rattle.clu_state.specs.State.{AreMembers, InClass, Obeys}
 use Rattle.clu_state.proofs.Whole.{all_members}
 use Rattle.clu_partition.proofs.ClosedLaws.{open_closed}
-use Rattle.clu_cli.specs.PackingBound.{whole}
+use Rattle.clu_cert.specs.Valid.{whole}
 
 each : (P : ℕ → Type 0) (n : ℕ) → ((v : ℕ) → v < n → P v) → All P (below n)
 each P n f = All-from_get_or P (below n) 0 (λ i h.
@@ -28,18 +25,3 @@ all_in_class problem start free label = record {
   forbidden = subst (All (λ p. Contains (below problem.pairs.n) p.0 → Contains (below problem.pairs.n) p.1 → label p.0 ≡ label p.1 → ⊥)) (sym free.none_forbidden) (All-nil (λ p. Contains (below problem.pairs.n) p.0 → Contains (below problem.pairs.n) p.1 → label p.0 ≡ label p.1 → ⊥));
   decisions = All-nil (Obeys label);
 }
-
--- ---- a greater value is printed as a better number
-grows : (base f v w : ℤ) → (f ≡ pos 1) ⊎ (f ≡ pos 2) → v ≤ℤ w → (base +ℤ f *ℤ v) ≤ℤ (base +ℤ f *ℤ w)
-grows base f v w or l = ⊎_elim
-    (λ e. subst (λ (k : ℤ). (base +ℤ k *ℤ v) ≤ℤ (base +ℤ k *ℤ w)) (sym e) (omega (arith, ints, l)))
-    (λ e. subst (λ (k : ℤ). (base +ℤ k *ℤ v) ≤ℤ (base +ℤ k *ℤ w)) (sym e) (omega (arith, ints, l)))
-    or
-
-better : (o : Objective) (base f v w : ℤ) → HasFactor o f → v ≤ℤ w → IsBetterOrEqual o (base +ℤ f *ℤ w) (base +ℤ f *ℤ v)
-better Edits base f v w e l = subst (λ (k : ℤ). (base +ℤ k *ℤ w) ≤ℤ (base +ℤ k *ℤ v)) (sym e) (omega (arith, ints, l))
-better Agreement base f v w or l = grows base f v w or l
-better Modularity base f v w or l = grows base f v w or l
-
-pub printed_better : (problem : Posed) (v w : ℤ) → HasFactor problem.objective problem.factor → v ≤ℤ w → IsBetterOrEqual problem.objective (printed problem w) (printed problem v)
-printed_better problem v w h l = better problem.objective problem.base problem.factor v w h l

@@ -1,25 +1,41 @@
 -- What a run promises: the headline, and the cause of each status.
-use Rattle.std.specs.Prelude.{◌≡◌, ◌⊎◌, ◌↔◌, ℕ, zero, suc, pos, ◌≤◌, ◌≤ℤ◌, List, length, Option, String}
-use Rattle.std.specs.Global.{Global}
-use Rattle.clu_outside.specs.Folder.{Told, one_call_later, Holds, HoldsMore, Lacks}
+use Rattle.std.specs.Prelude.{◌≡◌, ◌⊎◌, ◌↔◌, ℕ, zero, suc, pos, ◌+◌, ◌≤◌, ◌≤ℤ◌, List, length, Bool, Option, Some, None, Result, Ok, Err, if◌then◌else◌}
+use Rattle.clu_outside.specs.Folder.{Told, one_call_later, Holds, HoldsMore, Lacks, IsStored, IsStoredPartly, CallsWithin, stores_of}
 use Rattle.clu_outside.specs.Sink.{TakesSome, with_bytes}
+use Rattle.clu_partition.specs.Closed.{Closed, IsOpen}
 use Rattle.clu_partition.specs.Partition.{EachOnce, IsPartition, blocks_of}
 use Rattle.clu_pace.specs.Graph.{PaceGraph}
 use Rattle.clu_pace.specs.Numbers.{graph_names}
 use Rattle.clu_pace.specs.Pace.{IsAccepted}
 use Rattle.clu_objective.specs.Edits.{edits, PosesEdits}
 use Rattle.clu_objective.specs.Problem.{Posed}
+use Rattle.clu_cert.specs.Fits.{Fits}
+use Rattle.clu_cert.specs.Text.{text}
+use Rattle.clu_cert.specs.Valid.{IsValid}
+use Rattle.clu_cert.specs.declared.certificate.Certificate.{Certificate}
 use Rattle.clu_cli.specs.declared.report.Facts.{Facts}
+use Rattle.clu_cli.specs.declared.stop.Stop.{Stop}
+use Rattle.clu_cli.specs.declared.stop.Stop.TheVariants.{Refused, BadText, Rejected, Words, ReadFault, WriteFault, Memory, TooLong, NoFile}
 use Rattle.clu_cli.specs.CriticalCliques.{AreCriticalCliques}
 use Rattle.clu_cli.specs.PackingBound.{IsPackingBound}
-use Rattle.clu_cli.specs.Report.{report}
-use Rattle.clu_cli.specs.Words.{IsSolve}
+use Rattle.clu_cli.specs.Report.{report, check_report}
+use Rattle.clu_cli.specs.Words.{Command, solve, check, graph_file}
 
--- What is printed for the bytes of a file. They are a text of one graph alone. The report is that of a partition whose
+-- ---- what is printed
+-- The certificate is valid for the problem of the graph, without rules.
+pub record Certifies (graph : PaceGraph) (cert : Certificate) : Type 0 where
+  pub problem : Posed
+  pub poses : PosesEdits graph problem
+  pub start : Closed
+  pub unbound : IsOpen graph.n start
+  pub valid : IsValid problem start cert
+
+-- What is printed for the bytes of a graph file. They are a text of one graph alone. The report is that of a partition whose
 -- blocks hold each vertex exactly once, and are the critical cliques. The printed value is exactly its number of edits.
 -- No partition has fewer edits than the printed bound, which is that of a maximal packing of triangles in the state
--- without decisions. The status is 0 exactly where the two are equal.
-pub record IsAnswer (bytes printed : List ℕ) (status : ℕ) : Type 0 where
+-- without decisions. The certificate has these blocks, this value and this bound, and is valid. The status is 0 exactly
+-- where value and bound are equal.
+pub record IsAnswer (bytes printed : List ℕ) (cert : Certificate) (status : ℕ) : Type 0 where
   pub graph : PaceGraph
   pub accepted : IsAccepted bytes graph
   pub only : (other : PaceGraph) → IsAccepted bytes other → other ≡ graph
@@ -36,67 +52,40 @@ pub record IsAnswer (bytes printed : List ℕ) (status : ℕ) : Type 0 where
   pub bound : IsPackingBound problem facts.bound
   pub text : printed ≡ report facts (graph_names graph) labels
   pub optimal : (status ≡ 0) ↔ (facts.value ≡ facts.bound)
+  pub fits : Fits cert
+  pub certifies : Certifies graph cert
+  pub stated_blocks : cert.labels ≡ labels
+  pub stated_value : cert.value ≡ facts.value
+  pub stated_bound : cert.bound ≡ facts.bound
 
+-- What is printed for an accepted certificate of a graph. The bytes are the text of one certificate alone, and it is valid. Its
+-- labels are those of a partition, and its value is exactly their number of edits. No partition has fewer edits than its bound.
+pub record IsProofOf (graph : PaceGraph) (bytes printed : List ℕ) : Type 0 where
+  pub cert : Certificate
+  pub fits : Fits cert
+  pub read : bytes ≡ text cert
+  pub only : (other : Certificate) → Fits other → bytes ≡ text other → other ≡ cert
+  pub certifies : Certifies graph cert
+  pub partition : IsPartition graph.n cert.labels
+  pub value : cert.value ≡ pos (edits graph cert.labels)
+  pub none_better : (others : List ℕ) → IsPartition graph.n others → cert.bound ≤ℤ pos (edits graph others)
+  pub printed_is : printed ≡ check_report graph.n cert.value cert.bound
+
+-- ---- what the files hold
 -- the largest length of a graph file, in bytes
 abbrev pub max_bytes : ℕ
 max_bytes = 67108864
 
--- The words name a file. The folder, where it tells, holds these bytes under its name, and they are not too many.
-pub record IsLoaded (words : List (String Global)) (told : Option Told) (bytes : List ℕ) : Type 0 where
-  pub file : List ℕ
-  pub words_are : IsSolve words file
+-- the folder, where it tells, holds these bytes under the graph's name, and they are not too many
+pub record IsLoaded (file : List ℕ) (told : Option Told) (bytes : List ℕ) : Type 0 where
   pub held : Holds told file bytes
   pub small : length bytes ≤ max_bytes
 
--- status 0 or 1: the sink, where it tells, has taken the answer to the file that the words name, and nothing else
-pub record PrintsAnswer (words : List (String Global)) (told : Option Told) (old new : Option (List ℕ)) (status : ℕ) : Type 0 where
+-- the file of this name is a text of a graph
+pub record IsGraph (file : List ℕ) (told : Option Told) (graph : PaceGraph) : Type 0 where
   pub bytes : List ℕ
-  pub loaded : IsLoaded words told bytes
-  pub printed : List ℕ
-  pub answer : IsAnswer bytes printed status
-  pub written : new ≡ with_bytes old printed
-
--- status 4: the file that the words name is no text of a graph of at most 1,000 vertices
-pub record IsRefused (words : List (String Global)) (told : Option Told) : Type 0 where
-  pub bytes : List ℕ
-  pub loaded : IsLoaded words told bytes
-  pub no_graph : (graph : PaceGraph) → IsAccepted bytes graph → ⊥
-
--- status 10: the file that the words name is too long
-pub record IsTooLong (words : List (String Global)) (told : Option Told) : Type 0 where
-  pub file : List ℕ
-  pub words_are : IsSolve words file
-  pub longer : HoldsMore told file max_bytes
-
--- status 11: the folder lacks the file that the words name
-pub record IsAbsent (words : List (String Global)) (told : Option Told) : Type 0 where
-  pub file : List ℕ
-  pub words_are : IsSolve words file
-  pub absent : Lacks told file
-
--- status 8, and 9 where writing had begun: the sink has taken a prefix of the answer to the file
-pub record IsCutShort (words : List (String Global)) (told : Option Told) (old new : Option (List ℕ)) : Type 0 where
-  pub bytes : List ℕ
-  pub loaded : IsLoaded words told bytes
-  pub printed : List ℕ
-  pub status : ℕ
-  pub answer : IsAnswer bytes printed status
-  pub taken : TakesSome old new printed
-
--- the file that the words name is a text of a graph
-pub record IsReadable (words : List (String Global)) (told : Option Told) : Type 0 where
-  pub bytes : List ℕ
-  pub loaded : IsLoaded words told bytes
-  pub graph : PaceGraph
+  pub loaded : IsLoaded file told bytes
   pub accepted : IsAccepted bytes graph
-
--- The words and the file decide the status, but where a read fault (7), a write fault (8) or want of memory (9) comes
--- before it.
-pub record IsDecided (words : List (String Global)) (told : Option Told) (status : ℕ) : Type 0 where
-  pub absent : IsAbsent words told → (status ≡ 11) ⊎ (status ≡ 7) ⊎ (status ≡ 9)
-  pub too_long : IsTooLong words told → (status ≡ 10) ⊎ (status ≡ 7) ⊎ (status ≡ 9)
-  pub refused : IsRefused words told → (status ≡ 4) ⊎ (status ≡ 7) ⊎ (status ≡ 9)
-  pub readable : IsReadable words told → (status ≤ 1) ⊎ (status ≡ 7) ⊎ (status ≡ 8) ⊎ (status ≡ 9)
 
 -- what a folder tells after this many calls that changed no file
 abbrev pub after_calls : ℕ → Option Told → Option Told
@@ -104,7 +93,132 @@ after_calls zero told = told
 after_calls (suc n) told = one_call_later (after_calls n told)
 
 -- no file has changed, and the folder had no more calls than this
-pub record KeepsFiles (most : ℕ) (old new : Option Told) : Type 0 where
+pub record KeepsFiles (most : ℕ) (before after : Option Told) : Type 0 where
   pub calls : ℕ
   pub few : calls ≤ most
-  pub kept : new ≡ after_calls calls old
+  pub kept : after ≡ after_calls calls before
+
+-- where a name is given, the certificate is stored whole under it and nothing else has changed; else no file has changed
+abbrev pub Stores : Option (List ℕ) → Option Told → Option Told → Certificate → Type 0
+Stores None before after cert = KeepsFiles 1 before after
+Stores (Some name) before after cert =
+    IsStored before after name (text cert) × CallsWithin (1 + stores_of (length (text cert))) before after
+
+-- ---- how a command ends
+-- the report of `solve`, at a time at which the certificate is stored
+pub record SolveReports (file : List ℕ) (certificate : Option (List ℕ)) (before after : Option Told) (printed : List ℕ) (status : ℕ) : Type 0 where
+  pub bytes : List ℕ
+  pub loaded : IsLoaded file before bytes
+  pub cert : Certificate
+  pub answer : IsAnswer bytes printed cert status
+  pub stored : Stores certificate before after cert
+
+-- the report of `check`
+pub record CheckReports (file name : List ℕ) (before after : Option Told) (printed : List ℕ) (status : ℕ) : Type 0 where
+  pub bytes : List ℕ
+  pub loaded : IsLoaded file before bytes
+  pub graph : PaceGraph
+  pub read : IsAccepted bytes graph
+  pub only : (other : PaceGraph) → IsAccepted bytes other → other ≡ graph
+  pub certificate : List ℕ
+  pub held : Holds before name certificate
+  pub proof : IsProofOf graph certificate printed
+  pub accepted : status ≡ 0
+  pub kept : KeepsFiles 2 before after
+
+abbrev pub Reports : Command → Option Told → Option Told → List ℕ → ℕ → Type 0
+Reports (solve file certificate) before after printed status = SolveReports file certificate before after printed status
+Reports (check file name) before after printed status = CheckReports file name before after printed status
+
+-- status 0 or 1: the sink, where it tells, has taken the command's report, and nothing else
+pub record Prints (command : Command) (before after : Option Told) (old new : Option (List ℕ)) (status : ℕ) : Type 0 where
+  pub printed : List ℕ
+  pub reports : Reports command before after printed status
+  pub written : new ≡ with_bytes old printed
+
+-- the sink has taken a prefix of the report
+pub record WritesPartly (command : Command) (before after : Option Told) (old new : Option (List ℕ)) : Type 0 where
+  pub printed : List ℕ
+  pub status : ℕ
+  pub reports : Reports command before after printed status
+  pub taken : TakesSome old new printed
+
+-- the certificate's name holds what it held or a prefix of the certificate, and the sink has taken nothing
+pub record StoresPartly (command : Command) (before after : Option Told) (old new : Option (List ℕ)) : Type 0 where
+  pub file : List ℕ
+  pub name : List ℕ
+  pub command_is : command ≡ solve file (Some name)
+  pub bytes : List ℕ
+  pub loaded : IsLoaded file before bytes
+  pub printed : List ℕ
+  pub status : ℕ
+  pub cert : Certificate
+  pub answer : IsAnswer bytes printed cert status
+  pub stored : IsStoredPartly before after name (text cert)
+  pub few : CallsWithin (1 + stores_of (length (text cert))) before after
+  pub unwritten : new ≡ old
+
+-- status 8, and 9 where storing had begun: the certificate or the report is cut short, and the report is begun only where
+-- the certificate is whole
+abbrev pub IsCutShort : Command → Option Told → Option Told → Option (List ℕ) → Option (List ℕ) → Type 0
+IsCutShort command before after old new = StoresPartly command before after old new ⊎ WritesPartly command before after old new
+
+-- the folder had two loads at most, no file has changed, and the sink has taken nothing
+pub record Untouched (before after : Option Told) (old new : Option (List ℕ)) : Type 0 where
+  pub files : KeepsFiles 2 before after
+  pub unwritten : new ≡ old
+
+-- status 3: the graph is one, and the other file is the text of no certificate that is valid for it
+abbrev pub IsTurnedDown : Command → Option Told → Type 0
+IsTurnedDown (solve file certificate) told = ⊥
+IsTurnedDown (check file name) told = (graph : PaceGraph) × IsGraph file told graph × (bytes : List ℕ) × Holds told name bytes
+    × ((cert : Certificate) → Fits cert → bytes ≡ text cert → Certifies graph cert → ⊥)
+
+-- status 4: the graph's file is no text of a graph of at most 1,000 vertices
+pub record IsRefused (command : Command) (told : Option Told) : Type 0 where
+  pub bytes : List ℕ
+  pub loaded : IsLoaded (graph_file command) told bytes
+  pub no_graph : (graph : PaceGraph) → IsAccepted bytes graph → ⊥
+
+-- status 10: the graph's file is too long
+abbrev pub IsTooLong : Command → Option Told → Type 0
+IsTooLong command told = HoldsMore told (graph_file command) max_bytes
+
+-- status 11: the folder lacks the graph's file, or the graph is one and the folder lacks the certificate's
+abbrev pub IsAbsent : Command → Option Told → Type 0
+IsAbsent (solve file certificate) told = Lacks told file
+IsAbsent (check file name) told = Lacks told file ⊎ ((graph : PaceGraph) × IsGraph file told graph × Lacks told name)
+
+-- how a command ends, by the cause
+abbrev pub Ends : Command → Option Told → Option Told → Option (List ℕ) → Option (List ℕ) → Result Bool Stop → Type 0
+Ends command before after old new (Ok optimal) = Prints command before after old new (if optimal then 0 else 1)
+Ends command before after old new (Err (BadText line)) = IsTurnedDown command before × Untouched before after old new
+Ends command before after old new (Err (Rejected reject)) = IsTurnedDown command before × Untouched before after old new
+Ends command before after old new (Err Refused) = IsRefused command before × Untouched before after old new
+Ends command before after old new (Err Words) = ⊥
+Ends command before after old new (Err ReadFault) = Untouched before after old new
+Ends command before after old new (Err WriteFault) = IsCutShort command before after old new
+Ends command before after old new (Err Memory) = Untouched before after old new ⊎ IsCutShort command before after old new
+Ends command before after old new (Err TooLong) = IsTooLong command before × Untouched before after old new
+Ends command before after old new (Err NoFile) = IsAbsent command before × Untouched before after old new
+
+-- ---- which status comes
+-- the two files are a graph and the text of a certificate that is valid for it
+abbrev pub IsProven : Command → Option Told → Type 0
+IsProven (solve file certificate) told = ⊥
+IsProven (check file name) told = (graph : PaceGraph) × IsGraph file told graph × (cert : Certificate) × Fits cert × Holds told name (text cert) × Certifies graph cert
+
+-- the graph of `solve` is one
+abbrev pub IsSolvable : Command → Option Told → Type 0
+IsSolvable (solve file certificate) told = (graph : PaceGraph) × IsGraph file told graph
+IsSolvable (check file name) told = ⊥
+
+-- The command and the files decide the status, but where a read fault (7), a write fault (8) or want of memory (9) comes
+-- before it.
+pub record IsDecided (command : Command) (told : Option Told) (status : ℕ) : Type 0 where
+  pub absent : IsAbsent command told → (status ≡ 11) ⊎ (status ≡ 7) ⊎ (status ≡ 9)
+  pub too_long : IsTooLong command told → (status ≡ 10) ⊎ (status ≡ 7) ⊎ (status ≡ 9)
+  pub refused : IsRefused command told → (status ≡ 4) ⊎ (status ≡ 7) ⊎ (status ≡ 9)
+  pub turned_down : IsTurnedDown command told → (status ≡ 3) ⊎ (status ≡ 7) ⊎ (status ≡ 9)
+  pub proven : IsProven command told → (status ≡ 0) ⊎ (status ≡ 7) ⊎ (status ≡ 8) ⊎ (status ≡ 9)
+  pub solvable : IsSolvable command told → (status ≤ 1) ⊎ (status ≡ 7) ⊎ (status ≡ 8) ⊎ (status ≡ 9)

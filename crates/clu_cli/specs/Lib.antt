@@ -4,4 +4,5 @@ pub mod Headline
 pub mod PackingBound
 pub mod Report
 pub mod Status
+pub mod Steps
 pub mod Words

@@ -1,5 +1,5 @@
 -- The report of a solved graph.
-use Rattle.std.specs.Prelude.{ℕ, Bool, List, [], ◌∷◌, ◌++◌, codes, if◌then◌else◌, slice_index_or}
+use Rattle.std.specs.Prelude.{ℕ, ℤ, Bool, List, [], ◌∷◌, ◌++◌, codes, if◌then◌else◌, slice_index_or}
 use Rattle.std.specs.List.{flat_map}
 use Rattle.std.specs.Ordering.{int_eq}
 use Rattle.std.specs.Fmt.{decimal, signed_decimal}
@@ -42,3 +42,18 @@ block_line names block = line (codes "block" ++ flat_map (named names) block)
 -- the facts, and the blocks of the labels in the order of their first vertices
 abbrev pub report : Facts → List (List ℕ) → List ℕ → List ℕ
 report facts names labels = head facts (block_count_of labels) ++ flat_map (block_line names) (blocks_of labels)
+
+-- ---- the report of an accepted certificate
+-- the words of its verdict
+unfoldable pub check_verdict : ℤ → ℤ → List ℕ
+check_verdict value bound = if int_eq value bound then codes "optimal" else codes "gap"
+
+unfoldable pub check_report : ℕ → ℤ → ℤ → List ℕ
+check_report vertices value bound =
+    line (codes "accepted")
+    ++ line (codes "objective edits")
+    ++ line (codes "vertices " ++ decimal vertices)
+    ++ line (codes "value " ++ signed_decimal value)
+    ++ line (codes "bound " ++ signed_decimal bound)
+    ++ line (codes "scale 1")
+    ++ line (codes "verdict " ++ check_verdict value bound)

@@ -1,21 +1,24 @@
-//! `clu solve FILE`: cluster editing with a proved answer.
+//! `clu solve FILE [--certificate NAME]` and `clu check FILE NAME`: cluster editing with a proved
+//! answer, and with evidence that is checked apart.
 //!
-//! `run` is the program: its contract says what the printed report and each exit status mean for
-//! the bytes of the file. The headline stands in `specs/Headline.antt`; `main` only hands `run`
+//! `run` is the program: its contract says what the printed report, the certificate and each exit
+//! status mean for the bytes of the files. The headline stands in `specs/Headline.antt`; `main` only hands `run`
 //! the words, the folder and the streams of the system.
 #![tactic(auto)]
 
 mod answer;
 mod bound;
+mod certify;
+mod checked;
 mod cliques;
 mod report;
 mod run;
 mod stop;
 mod words;
 
-use crate::run::run;
+use crate::run::{run, tell};
 use crate::stop::Stop;
-use clu_outside::{RealFolder, RealSink, write_whole};
+use clu_outside::{RealFolder, RealSink};
 use std::io::ErrorKind;
 use std::process::ExitCode;
 use std::{env, io};
@@ -38,7 +41,7 @@ fn main(rt: HostRuntime) -> ExitCode {
                 ErrorKind::OutOfMemory => Stop::Memory,
                 _ => Stop::Words,
             };
-            let _ = write_whole(&mut err, stop.line().as_bytes());
+            tell(rt.alloc(), &mut err, &stop);
             return ExitCode::from(stop.status());
         }
     };

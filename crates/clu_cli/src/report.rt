@@ -1,8 +1,10 @@
 ghost use Rattle.std.specs.Prelude.{◌≡◌, ◌↔◌, ◌<◌, ◌++◌, length, All, IfOk, IsTrue, OnOk};
 ghost use Rattle.std.specs.Fmt.{signed_decimal};
+ghost use Rattle.std.specs.Ordering.{int_eq};
 ghost use Rattle.clu_partition.specs.Partition.{block_count_of};
-ghost use Rattle.clu_cli.specs.Report.{block_line, head, line, optimal, report, verdict};
+ghost use Rattle.clu_cli.specs.Report.{block_line, check_report, check_verdict, head, line, optimal, report, verdict};
 
+use clu_check::Accepted;
 use clu_partition::{Names, Partition, Vertex};
 use clu_text::push_number;
 use std::alloc::{AllocError, Global};
@@ -93,6 +95,36 @@ fn push_block<N: Names>(out: &mut Vec<u8>, names: &N, block: &[Vertex]) -> Resul
     Ok(())
 }
 
+/// Whether the value is the bound.
+fn is_tight(accepted: Accepted) -> bool
+    ensures { result ≡ int_eq accepted.value accepted.bound }
+{
+    accepted.value == accepted.bound
+}
+
+#[tactic(auto, unfolding(crate::specs::Report::check_verdict))]
+fn check_verdict_text(accepted: Accepted) -> &'static str
+    ensures { result.now ≡ check_verdict accepted.value accepted.bound }
+{
+    if is_tight(accepted) { "optimal" } else { "gap" }
+}
+
+/// The report of an accepted certificate.
+#[tactic(auto, unfolding(crate::specs::Report::check_report))]
+pub fn check_text(alloc: Global, vertices: u32, accepted: Accepted) -> Result<Vec<u8>, AllocError>
+    ensures { IfOk result (λ text. text.items ≡ check_report vertices accepted.value accepted.bound) }
+{
+    let mut out = Vec::new(alloc);
+    push_text(&mut out, "", "accepted")?;
+    push_text(&mut out, "objective ", "edits")?;
+    push_field(&mut out, "vertices ", vertices as i128)?;
+    push_field(&mut out, "value ", accepted.value)?;
+    push_field(&mut out, "bound ", accepted.bound)?;
+    push_text(&mut out, "scale ", "1")?;
+    push_text(&mut out, "verdict ", check_verdict_text(accepted))?;
+    Ok(out)
+}
+
 /// The report of a partition, with a line for each block.
 pub fn report_text<N: Names>(
     alloc: Global,
@@ -106,7 +138,7 @@ pub fn report_text<N: Names>(
     let mut out = head_text(alloc, facts, partition.block_count())?;
     let blocks = partition.blocks(alloc)?;
     for block in &blocks {
-        push_block(&mut out, names, block.vertices())?;
+        push_block(&mut out, names, block.as_slice())?;
     }
     Ok(out)
 }

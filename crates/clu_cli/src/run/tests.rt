@@ -3,83 +3,115 @@ use clu_outside::{MemoryFolder, MemorySink};
 use std::process::Abort;
 use std::test::Fail;
 
-const PATH: &str = "p cep 3 2\n1 2\n2 3\n";
-
-const REPORT: &str =
+const PATH_REPORT: &str =
     "objective edits\nvertices 3\nvalue 2\nbound 1\nscale 1\nverdict gap branchings\nbranchings 0\nblocks 3\nblock 1\nblock 2\nblock 3\n";
 
-/// A run over the files `path`, `alone` and `loop`: its words, the numbers of the calls of the folder, of
-/// out and of err that are to fail, and what must come of it.
+const ALONE_REPORT: &str =
+    "objective edits\nvertices 1\nvalue 0\nbound 0\nscale 1\nverdict optimal\nbranchings 0\nblocks 1\nblock 1\n";
+
+const STAR_REPORT: &str =
+    "objective edits\nvertices 4\nvalue 3\nbound 1\nscale 1\nverdict gap branchings\nbranchings 0\nblocks 4\nblock 1\nblock 2\nblock 3\nblock 4\n";
+
+const ACCEPTED: &str =
+    "accepted\nobjective edits\nvertices 4\nvalue 3\nbound 1\nscale 1\nverdict gap\n";
+
+const ACCEPTED_LOW: &str =
+    "accepted\nobjective edits\nvertices 4\nvalue 3\nbound 0\nscale 1\nverdict gap\n";
+
+/// A certificate of the star.
+const STAR_CERT: &str =
+    "clucert 1\nobjective edits\nvertices 4\nvalue 3\nbound 1\nblocks 1 2 3 4\nsteps 0\nparts 1\npart 1 2 3 4\nitems 1\nleaf 1 1\nrow 1 1 / 2 3\nend\n";
+
+/// The files of each case: graphs, the star's certificate, and altered copies of it.
+const FILES: [(&str, &str); 12] = [
+    ("path", "p cep 3 2\n1 2\n2 3\n"),
+    ("alone", "p cep 1 0\n"),
+    ("loop", "p cep 3 1\n2 2\n"),
+    ("star", "p cep 4 3\n1 2\n1 3\n1 4\n"),
+    ("valid", STAR_CERT),
+    (
+        "low",
+        "clucert 1\nobjective edits\nvertices 4\nvalue 3\nbound 0\nblocks 1 2 3 4\nsteps 0\nparts 1\npart 1 2 3 4\nitems 1\nleaf 1 1\nrow 1 1 / 2 3\nend\n",
+    ),
+    (
+        "high",
+        "clucert 1\nobjective edits\nvertices 4\nvalue 3\nbound 2\nblocks 1 2 3 4\nsteps 0\nparts 1\npart 1 2 3 4\nitems 1\nleaf 1 1\nrow 1 1 / 2 3\nend\n",
+    ),
+    (
+        "four",
+        "clucert 1\nobjective edits\nvertices 4\nvalue 4\nbound 1\nblocks 1 2 3 4\nsteps 0\nparts 1\npart 1 2 3 4\nitems 1\nleaf 1 1\nrow 1 1 / 2 3\nend\n",
+    ),
+    (
+        "pair",
+        "clucert 1\nobjective edits\nvertices 4\nvalue 3\nbound 1\nblocks 1 2 3 4\nsteps 0\nparts 1\npart 1 2 3 4\nitems 2\npair 1 2\nleaf 1 1\nrow 1 1 / 2 3\nend\n",
+    ),
+    (
+        "leaf",
+        "clucert 1\nobjective edits\nvertices 4\nvalue 3\nbound 1\nblocks 1 2 3 4\nsteps 0\nparts 1\npart 1 2 3 4\nitems 1\nleaf 0 1\nrow 1 1 / 2 3\nend\n",
+    ),
+    (
+        "open",
+        "clucert 1\nobjective edits\nvertices 4\nvalue 3\nbound 1\nblocks 1 2 3 4\nsteps 0\nparts 1\npart 1 2 3 4\nitems 1\nleaf 1 1\nrow 1 1 / 2 3\n",
+    ),
+    ("old", "what stood there"),
+];
+
+/// A run over these files: its words, the numbers of the calls of the folder, of out and of err
+/// that are to fail, and what must come of it.
+#[derive(Clone, Copy)]
 struct Case {
-    words: [&'static str; 2],
+    words: &'static [&'static str],
     failing: [&'static [u64]; 3],
     status: u8,
     out: &'static str,
     err: &'static str,
 }
 
-const ALONE: &str =
-    "objective edits\nvertices 1\nvalue 0\nbound 0\nscale 1\nverdict optimal\nbranchings 0\nblocks 1\nblock 1\n";
-
-const CASES: [Case; 9] = [
+const CASES: [Case; 7] = [
     Case {
-        words: ["solve", "alone"],
+        words: &["solve", "alone"],
         failing: [&[], &[], &[]],
         status: 0,
-        out: ALONE,
+        out: ALONE_REPORT,
         err: "",
     },
     Case {
-        words: ["solve", "path"],
+        words: &["solve", "path"],
         failing: [&[], &[], &[]],
         status: 1,
-        out: REPORT,
+        out: PATH_REPORT,
         err: "",
     },
     Case {
-        words: ["solve", "loop"],
+        words: &["solve", "loop"],
         failing: [&[], &[], &[]],
         status: 4,
         out: "",
         err: "clu: graph Refused\n",
     },
     Case {
-        words: ["solve", "-path"],
-        failing: [&[], &[], &[]],
-        status: 6,
-        out: "",
-        err: "clu: words\n",
-    },
-    Case {
-        words: ["check", "path"],
-        failing: [&[1], &[], &[]],
-        status: 6,
-        out: "",
-        err: "clu: words\n",
-    },
-    Case {
-        words: ["solve", "path"],
+        words: &["solve", "path"],
         failing: [&[1], &[], &[]],
         status: 7,
         out: "",
         err: "clu: read fault\n",
     },
     Case {
-        words: ["solve", "path"],
+        words: &["solve", "path"],
         failing: [&[2], &[1], &[]],
         status: 8,
         out: "",
         err: "clu: write fault\n",
     },
     Case {
-        words: ["solve", "ring"],
+        words: &["solve", "ring"],
         failing: [&[], &[], &[]],
         status: 11,
         out: "",
         err: "clu: no file\n",
     },
     Case {
-        words: ["solve", "loop"],
+        words: &["solve", "loop"],
         failing: [&[], &[], &[1]],
         status: 4,
         out: "",
@@ -87,35 +119,228 @@ const CASES: [Case; 9] = [
     },
 ];
 
-fn words_of(alloc: Global, case: &Case) -> Result<Vec<String>, Fail> {
-    let mut words = Vec::new(alloc);
-    for word in case.words {
-        words.push(String::from_str(alloc, word)?)?;
-    }
-    Ok(words)
+/// Words of no command.
+const WRONG_WORDS: [&[&str]; 9] = [
+    &[],
+    &["solve"],
+    &["solve", "-path"],
+    &["check", "star"],
+    &["check", "star", "-valid"],
+    &["solve", "star", "--certificate"],
+    &["solve", "--certificate", "new", "star"],
+    &["solve", "star", "--certificates", "new"],
+    &[
+        "solve",
+        "star",
+        "--certificate",
+        "new",
+        "--certificate",
+        "newer",
+    ],
+];
+
+/// The star and a certificate that is checked against it.
+const CHECKS: [Case; 8] = [
+    Case {
+        words: &["check", "star", "valid"],
+        failing: [&[], &[], &[]],
+        status: 0,
+        out: ACCEPTED,
+        err: "",
+    },
+    Case {
+        words: &["check", "star", "low"],
+        failing: [&[], &[], &[]],
+        status: 0,
+        out: ACCEPTED_LOW,
+        err: "",
+    },
+    Case {
+        words: &["check", "star", "high"],
+        failing: [&[], &[], &[]],
+        status: 3,
+        out: "",
+        err: "clu: rejected 9 1\n",
+    },
+    Case {
+        words: &["check", "star", "four"],
+        failing: [&[], &[], &[]],
+        status: 3,
+        out: "",
+        err: "clu: rejected 4 3\n",
+    },
+    Case {
+        words: &["check", "star", "pair"],
+        failing: [&[], &[], &[]],
+        status: 3,
+        out: "",
+        err: "clu: rejected 5 item 1\n",
+    },
+    Case {
+        words: &["check", "star", "leaf"],
+        failing: [&[], &[], &[]],
+        status: 3,
+        out: "",
+        err: "clu: rejected 7 item 1\n",
+    },
+    Case {
+        words: &["check", "star", "open"],
+        failing: [&[], &[], &[]],
+        status: 3,
+        out: "",
+        err: "clu: certificate line 13\n",
+    },
+    Case {
+        words: &["check", "star", "missing"],
+        failing: [&[], &[], &[]],
+        status: 11,
+        out: "",
+        err: "clu: no file\n",
+    },
+];
+
+/// A run that stores the star's certificate under a name, and what the name holds then.
+struct Stored {
+    case: Case,
+    name: &'static str,
+    held: &'static str,
 }
 
-fn check(rt: &impl Abort, alloc: Global, case: &Case) -> Result<(), Fail> {
-    let words = words_of(alloc, case)?;
-    let [loads, writes, lines] = case.failing;
-    let mut folder = MemoryFolder::new(alloc, loads.to_vec(alloc)?);
-    folder.put("path", PATH.as_bytes())?;
-    folder.put("alone", b"p cep 1 0\n")?;
-    folder.put("loop", b"p cep 3 1\n2 2\n")?;
+const STORES: [Stored; 5] = [
+    Stored {
+        case: Case {
+            words: &["solve", "star", "--certificate", "old"],
+            failing: [&[], &[], &[]],
+            status: 1,
+            out: STAR_REPORT,
+            err: "",
+        },
+        name: "old",
+        held: STAR_CERT,
+    },
+    Stored {
+        case: Case {
+            words: &["solve", "star", "--certificate", "star"],
+            failing: [&[], &[], &[]],
+            status: 1,
+            out: STAR_REPORT,
+            err: "",
+        },
+        name: "star",
+        held: STAR_CERT,
+    },
+    Stored {
+        case: Case {
+            words: &["solve", "star", "--certificate", "old"],
+            failing: [&[2], &[], &[]],
+            status: 8,
+            out: "",
+            err: "clu: write fault\n",
+        },
+        name: "old",
+        held: "what stood there",
+    },
+    Stored {
+        case: Case {
+            words: &["solve", "star", "--certificate", "old"],
+            failing: [&[3], &[], &[]],
+            status: 8,
+            out: "",
+            err: "clu: write fault\n",
+        },
+        name: "old",
+        held: "",
+    },
+    Stored {
+        case: Case {
+            words: &["solve", "star", "--certificate", "old"],
+            failing: [&[], &[1], &[]],
+            status: 8,
+            out: "",
+            err: "clu: write fault\n",
+        },
+        name: "old",
+        held: STAR_CERT,
+    },
+];
+
+fn words_of(alloc: Global, words: &[&str]) -> Result<Vec<String>, Fail> {
+    let mut owned = Vec::new(alloc);
+    for word in words {
+        owned.push(String::from_str(alloc, word)?)?;
+    }
+    Ok(owned)
+}
+
+fn folder_of(alloc: Global, failing: &[u64]) -> Result<MemoryFolder, Fail> {
+    let mut folder = MemoryFolder::new(alloc, failing.to_vec(alloc)?);
+    for (name, text) in FILES {
+        folder.put(name, text.as_bytes())?;
+    }
+    Ok(folder)
+}
+
+fn holds(folder: &MemoryFolder, name: &str, text: &str) -> bool {
+    match folder.get(name) {
+        Some(bytes) => bytes == text.as_bytes(),
+        None => false,
+    }
+}
+
+fn expect(rt: &impl Abort, alloc: Global, case: &Case) -> Result<MemoryFolder, Fail> {
+    let words = words_of(alloc, case.words)?;
+    let [calls, writes, lines] = case.failing;
+    let mut folder = folder_of(alloc, calls)?;
     let mut out = MemorySink::new(alloc, writes.to_vec(alloc)?);
     let mut err = MemorySink::new(alloc, lines.to_vec(alloc)?);
     let status = run(alloc, &words, &mut folder, &mut out, &mut err);
-    let file = case.words[1];
-    assert_eq!(rt; status, case.status, "of {file}");
-    assert!(rt; out.bytes() == case.out.as_bytes(), "of {file}");
-    assert!(rt; err.bytes() == case.err.as_bytes(), "of {file}");
+    assert_eq!(rt; status, case.status);
+    assert!(rt; out.bytes() == case.out.as_bytes());
+    assert!(rt; err.bytes() == case.err.as_bytes());
+    Ok(folder)
+}
+
+fn expect_held(rt: &impl Abort, alloc: Global, stored: &Stored) -> Result<(), Fail> {
+    let folder = expect(rt, alloc, &stored.case)?;
+    assert!(rt; holds(&folder, stored.name, stored.held));
     Ok(())
 }
 
 #[test]
 fn each_status_has_its_cause(rt: HostRuntime) -> Result<(), Fail> {
     for case in &CASES {
-        check(&rt, rt.alloc(), case)?;
+        expect(&rt, rt.alloc(), case)?;
+    }
+    Ok(())
+}
+
+#[test]
+fn other_words_are_refused(rt: HostRuntime) -> Result<(), Fail> {
+    for words in WRONG_WORDS {
+        let case = Case {
+            words,
+            failing: [&[1], &[], &[]],
+            status: 6,
+            out: "",
+            err: "clu: words\n",
+        };
+        expect(&rt, rt.alloc(), &case)?;
+    }
+    Ok(())
+}
+
+#[test]
+fn a_certificate_is_judged_by_the_graph(rt: HostRuntime) -> Result<(), Fail> {
+    for case in &CHECKS {
+        expect(&rt, rt.alloc(), case)?;
+    }
+    Ok(())
+}
+
+#[test]
+fn a_certificate_is_stored_before_the_report(rt: HostRuntime) -> Result<(), Fail> {
+    for stored in &STORES {
+        expect_held(&rt, rt.alloc(), stored)?;
     }
     Ok(())
 }

@@ -1,0 +1,48 @@
+ghost use Rattle.std.specs.Prelude.{IfOk};
+ghost use Rattle.clu_cert.specs.Fits.{Fits};
+
+use super::*;
+use clu_cert::write_cert;
+use std::process::Abort;
+use std::test::Fail;
+
+/// A graph, and the text of its certificate.
+struct Case {
+    graph: &'static str,
+    certificate: &'static str,
+}
+
+const CASES: [Case; 2] = [
+    Case {
+        graph: "p cep 4 3\n1 2\n1 3\n1 4\n",
+        certificate: "clucert 1\nobjective edits\nvertices 4\nvalue 3\nbound 1\nblocks 1 2 3 4\nsteps 0\nparts 1\npart 1 2 3 4\nitems 1\nleaf 1 1\nrow 1 1 / 2 3\nend\n",
+    },
+    Case {
+        graph: "p cep 0 0\n",
+        certificate: "clucert 1\nobjective edits\nvertices 0\nvalue 0\nbound 0\nblocks\nsteps 0\nparts 0\nend\n",
+    },
+];
+
+fn certificate_of(alloc: Global, graph: &[u8]) -> Result<Certificate, PaceError>
+    ensures { IfOk result (λ cert. Fits cert) }
+{
+    let answer = answer_of(alloc, graph)?;
+    Ok(answer.certificate)
+}
+
+fn check(rt: &impl Abort, alloc: Global, case: &Case) -> Result<(), Fail> {
+    let Ok(certificate) = certificate_of(alloc, case.graph.as_bytes()) else {
+        return Err(Fail::from("a graph"));
+    };
+    let text = write_cert(alloc, &certificate)?;
+    assert!(rt; text.as_slice() == case.certificate.as_bytes());
+    Ok(())
+}
+
+#[test]
+fn one_leaf_makes_the_certificate(rt: HostRuntime) -> Result<(), Fail> {
+    for case in &CASES {
+        check(&rt, rt.alloc(), case)?;
+    }
+    Ok(())
+}
