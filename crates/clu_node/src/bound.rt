@@ -1,0 +1,102 @@
+ghost use Rattle.std.specs.Prelude.{◌≡◌, ◌↔◌, ◌≤◌, ◌^◌, ℕ, ◌≤ℤ◌, IfOk, IfSome, unsigned_abs};
+ghost use Rattle.clu_partition.specs.Pairs.{weight_of};
+ghost use Rattle.clu_partition.specs.Values.{value_on};
+ghost use Rattle.clu_state.specs.State.{InClass, fixed_value};
+ghost use Rattle.clu_rows.specs.Faults.{AreRows};
+ghost use Rattle.clu_rows.specs.Packing.{IsPacking, IsMaximal};
+ghost use Rattle.clu_rows.specs.Rows.{leaf_bound_of};
+ghost use Rattle.clu_node.specs.Node.{IsBounded, IsHeaviest};
+
+use crate::pair::heaviest;
+use clu_partition::Vertex;
+use clu_rows::{Leaf, LeafFault, Residual, leaf_bound, pack};
+use clu_state::Situation;
+use std::alloc::{AllocError, Global};
+
+/// How a node's bound stands to the best value that was known when it was found.
+#[derive(Clone, Copy, Debug, PartialEq, Eq)]
+pub enum How {
+    /// The bound is at most that value: the node has no better partition.
+    Closed,
+    /// The bound is above it.
+    Unclosed,
+}
+
+/// What bounds the partitions of a node's state.
+#[derive(Debug, Drop)]
+pub struct NodeBound {
+    /// A leaf of the state.
+    pub leaf: Leaf,
+    /// The bound of the leaf: no partition of the state's class has a greater value.
+    pub bound: i128,
+    /// Whether the node is closed.
+    pub how: How,
+    /// A free pair to split on, by the least vertices of its groups, unless there is none.
+    pub pair: Option<(Vertex, Vertex)>,
+}
+
+/// How a bound stands to the best value known.
+fn how_of(bound: i128, best: i128) -> How
+    ensures { (result ≡ How.Closed) ↔ (bound ≤ℤ best) }
+{
+    if bound <= best {
+        How::Closed
+    } else {
+        How::Unclosed
+    }
+}
+
+/// The bound of a leaf of rows without a fault, over 1.
+fn bound_of<S: Situation>(state: &S, leaf: &Leaf, scratch: &mut Residual) -> i128
+    requires room { (S.state state.now).pairs.n ≤ scratch.old.n }
+    requires den { leaf.now.den ≡ 1 }
+    requires rows { AreRows (S.state state.now) leaf.now.rows }
+    ensures value { result ≡ leaf_bound_of (S.state state.now) leaf.now.den leaf.now.rows }
+    ensures sound { (label : ℕ → ℕ) → InClass (S.state state.now) label
+        → value_on (weight_of (S.state state.now).pairs) label (S.state state.now).members ≤ℤ result }
+    ensures room { scratch.new.n ≡ scratch.old.n }
+{
+    match leaf_bound(state, leaf, scratch) {
+        Ok(bound) => bound,
+        Err(LeafFault::Den | LeafFault::Row { .. }) => unreachable!(),
+    }
+}
+
+/// Packs triangles, and names the free pair of greatest absolute weight between its groups, ties by
+/// the least pair. `scratch` has room for the problem's vertices, and what it holds doesn't matter.
+pub fn bound_node<S: Situation>(
+    alloc: Global,
+    state: &S,
+    best: i128,
+    scratch: &mut Residual,
+) -> Result<NodeBound, AllocError>
+    requires { (S.state state.now).pairs.n ≤ scratch.old.n }
+    ensures bounded { IfOk result (λ node. IsBounded (S.state state.now) node) }
+    ensures packing { IfOk result (λ node. (node.leaf.den ≡ 1)
+        × IsPacking (S.state state.now) node.leaf.rows) }
+    ensures maximal { IfOk result (λ node. IsMaximal (S.state state.now) node.leaf.rows) }
+    ensures small { IfOk result (λ node. unsigned_abs node.bound ≤ 2 ^ 88) }
+    ensures sound { IfOk result (λ node. (label : ℕ → ℕ) → InClass (S.state state.now) label
+        → value_on (weight_of (S.state state.now).pairs) label (S.state state.now).members
+        ≤ℤ node.bound) }
+    ensures closed { IfOk result (λ node. (node.how ≡ How.Closed) ↔ (node.bound ≤ℤ best)) }
+    ensures heaviest { IfOk result (λ node. IfSome node.pair (IsHeaviest (S.state state.now))) }
+    ensures settled { IfOk result (λ node. node.pair ≡ None
+        → node.bound ≡ fixed_value (S.state state.now)) }
+    ensures room { scratch.new.n ≡ scratch.old.n }
+{
+    let leaf = pack(alloc, state)?;
+    let pairs = state.free_pairs(alloc)?;
+    let pair = heaviest(state, pairs.as_slice());
+    let bound = bound_of(state, &leaf, scratch);
+    let how = how_of(bound, best);
+    Ok(NodeBound {
+        leaf,
+        bound,
+        how,
+        pair,
+    })
+}
+
+#[cfg(test)]
+mod tests;
