@@ -1,0 +1,273 @@
+-- The list that the links show, before and after two nodes are put in.
+use Rattle.std.proofs.Common.{◌≡◌, ◌≢◌, ℕ, ◌+◌, ◌-◌, ◌<◌, ◌<ℤ◌, ℤ, ◌⊎◌, ⊎_elim, inl, inr, List, [], ◌∷◌, ◌++◌, map, length, append_assoc, append-nil, refl, sym, ap, ◌∙◌, subst, arith, zero, suc, Option, Some, None}
+use Rattle.std.proofs.lemmas.Bool.{cases_eq}
+use Rattle.slab.specs.Slab.{Slab, get, slab_len}
+use Rattle.clu_state.specs.State.{State, IsState, IsFree, decided}
+use Rattle.clu_state.specs.declared.decision.Decision.TheVariants.{Together, Apart}
+use Rattle.clu_node.specs.declared.bound.NodeBound.{NodeBound}
+use Rattle.clu_node.specs.declared.bound.How.TheVariants.{Closed}
+use Rattle.clu_cert.specs.declared.certificate.Item.{Item}
+use Rattle.clu_cert.specs.declared.certificate.Item.TheVariants.{Reduce}
+use Rattle.clu_tree.specs.declared.node.Fresh.{Fresh}
+use Rattle.clu_tree.specs.declared.node.Node.{Node}
+use Rattle.clu_tree.specs.Nodes.{HasKey, LeafAt, AreTrees, IsFit, state_from, new_leaf, split_nodes, node_item, items_of}
+use Rattle.clu_tree.specs.Links.{shown, then_next, follow, NotAmong, KeysDiffer, AreLinked, Attached, SameNodes, leaf_node, side_of}
+use Rattle.clu_tree.proofs.SplitLaws.{split_here, split_later, leaf_later, split_length, split_differ, split_trees}
+
+-- ---- the links
+pub options : {A : Type 0} (o : Option A) → (o ≡ None) ⊎ ((x : A) × (o ≡ Some x))
+options None = inl refl
+options (Some x) = inr (x, refl)
+
+pub not_none : {A : Type 0} (o : Option A) (x : A) → o ≡ Some x → o ≡ None → ⊥
+not_none o x e f = cc
+
+pub some_one : {A : Type 0} (o : Option A) (x y : A) → o ≡ Some x → o ≡ Some y → x ≡ y
+some_one o x y e f = cc
+
+pub follow_some : (more : ℕ) (s : Slab Node) (key : ℕ) (n : Node) → get s key ≡ Some n → follow (suc more) s key ≡ shown key n ∷ follow more s n.next
+follow_some more s key n e = ap (λ o. then_next key o (λ next. follow more s next)) e
+
+follow_none : (more : ℕ) (s : Slab Node) (key : ℕ) → get s key ≡ None → follow (suc more) s key ≡ []
+follow_none more s key e = ap (λ o. then_next key o (λ next. follow more s next)) e
+
+-- links that are long enough begin with a node
+pub first_there : (more : ℕ) (s : Slab Node) (key : ℕ) → length (follow (suc more) s key) ≡ suc more
+    → (n : Node) × (get s key ≡ Some n) × (length (follow more s n.next) ≡ more)
+first_there more s key l = ⊎_elim
+    (λ e. let h = ap length (follow_none more s key e) in absurd (omega (arith, l, h)))
+    (λ w. let h = ap length (follow_some more s key w.0 w.1) in (w.0, w.1, omega (arith, l, h)))
+    (options (get s key))
+
+same_follow : (more : ℕ) (s t : Slab Node) (key : ℕ) → ((k : ℕ) → get t k ≡ get s k) → follow more t key ≡ follow more s key
+same_follow zero s t key e = refl
+same_follow (suc more) s t key e = ⊎_elim
+    (λ h. follow_none more t key (e key ∙ h) ∙ sym (follow_none more s key h))
+    (λ w. follow_some more t key w.0 (e key ∙ w.1) ∙ ap (λ ns. shown key w.0 ∷ ns) (same_follow more s t w.0.next e) ∙ sym (follow_some more s key w.0 w.1))
+    (options (get s key))
+
+-- a vacant key isn't shown
+pub vacant_not_among : (more : ℕ) (s : Slab Node) (key k : ℕ) → get s k ≡ None → NotAmong k (follow more s key)
+vacant_not_among zero s key k e = tt
+vacant_not_among (suc more) s key k e = ⊎_elim
+    (λ h. subst (NotAmong k) (sym (follow_none more s key h)) tt)
+    (λ w. subst (NotAmong k) (sym (follow_some more s key w.0 w.1))
+    ((λ p. not_none (get s k) w.0 (ap (get s) (sym p) ∙ w.1) e), vacant_not_among more s w.0.next k e))
+    (options (get s key))
+
+-- ---- a split
+-- the nodes at the keys of a split, before and after it
+pub record Replaced (old new : Slab Node) (key : ℕ) (pair : ℕ × ℕ) (keys : ℕ × ℕ) (n x y : Node) : Type 0 where
+  pub had : get old key ≡ Some n
+  pub first_vacant : get old keys.0 ≡ None
+  pub second_vacant : get old keys.1 ≡ None
+  pub split : get new key ≡ Some (record n { cut = Some pair; next = keys.0 })
+  pub first : get new keys.0 ≡ Some x
+  pub first_next : x.next ≡ keys.1
+  pub second : get new keys.1 ≡ Some y
+  pub second_next : y.next ≡ n.next
+  pub others : (other : ℕ) → other ≢ key → other ≢ keys.0 → other ≢ keys.1 → get new other ≡ get old other
+
+module _ (old new : Slab Node) (key : ℕ) (pair keys : ℕ × ℕ) (n x y : Node) (a : Replaced old new key pair keys n x y) where
+  pub stays : (k : ℕ) (m : Node) → get old k ≡ Some m → k ≢ key → get new k ≡ Some m
+  stays k m e d = a.others k d (λ p. not_none (get old k) m e (ap (get old) p ∙ a.first_vacant))
+      (λ p. not_none (get old k) m e (ap (get old) p ∙ a.second_vacant)) ∙ e
+
+  -- links that don't come to the key stay
+  later_stays : (more k : ℕ) → length (follow more old k) ≡ more → NotAmong key (follow more old k) → follow more new k ≡ follow more old k
+  later_stays zero k l d = refl
+  later_stays (suc more) k l d =
+      let w = first_there more old k l in
+      let p = follow_some more old k w.0 w.1 in
+      let e = subst (NotAmong key) p d in
+      follow_some more new k w.0 (stays k w.0 w.1 e.0) ∙ ap (λ ns. shown k w.0 ∷ ns) (later_stays more w.0.next w.2 e.1) ∙ sym p
+
+  -- the links from the key on
+  from_key : (more : ℕ) → length (follow more old n.next) ≡ more → NotAmong key (follow more old n.next)
+      → follow (suc (suc (suc more))) new key
+      ≡ record (shown key n) { cut = Some pair } ∷ shown keys.0 x ∷ shown keys.1 y ∷ follow more old n.next
+  from_key more l d =
+      follow_some (suc (suc more)) new key (record n { cut = Some pair; next = keys.0 }) a.split
+      ∙ ap (λ ns. record (shown key n) { cut = Some pair } ∷ ns) (follow_some (suc more) new keys.0 x a.first
+      ∙ ap (λ ns. shown keys.0 x ∷ ns) (ap (λ j. follow (suc more) new j) a.first_next ∙ follow_some more new keys.1 y a.second
+      ∙ ap (λ ns. shown keys.1 y ∷ ns) (ap (λ j. follow more new j) a.second_next ∙ later_stays more n.next l d)))
+
+  grown : (node : NodeBound) (more k : ℕ) → length (follow more old k) ≡ more → KeysDiffer (follow more old k) → LeafAt key node (follow more old k)
+      → follow (suc (suc more)) new k ≡ split_nodes key pair (shown keys.0 x) (shown keys.1 y) (follow more old k)
+  grown node zero k l d o = absurd o
+  grown node (suc more) k l d o =
+      let w = first_there more old k l in
+      let p = follow_some more old k w.0 w.1 in
+      let e = subst KeysDiffer p d in
+      let q = subst (LeafAt key node) p o in
+      let later = follow more old w.0.next in
+      ⊎_elim
+      (λ s.
+      let i : w.0 ≡ n = some_one (get old key) w.0 n (ap (get old) (sym s) ∙ w.1) a.had in
+      ap (follow (suc (suc (suc more))) new) s
+      ∙ from_key more (subst (λ (m : Node). length (follow more old m.next) ≡ more) i w.2)
+      (subst (λ (m : Node). NotAmong key (follow more old m.next)) i (subst (λ j. NotAmong j later) s e.0))
+      ∙ ap (λ (m : Node). record (shown key m) { cut = Some pair } ∷ shown keys.0 x ∷ shown keys.1 y ∷ follow more old m.next) (sym i)
+      ∙ ap (λ j. record (shown j w.0) { cut = Some pair } ∷ shown keys.0 x ∷ shown keys.1 y ∷ later) (sym s)
+      ∙ sym (split_here key pair (shown keys.0 x) (shown keys.1 y) (shown k w.0) later s)
+      ∙ ap (split_nodes key pair (shown keys.0 x) (shown keys.1 y)) (sym p))
+      (λ s.
+      follow_some (suc (suc more)) new k w.0 (stays k w.0 w.1 s)
+      ∙ ap (λ ns. shown k w.0 ∷ ns) (grown node more w.0.next w.2 e.1 (leaf_later key node (shown k w.0) later s q))
+      ∙ sym (split_later key pair (shown keys.0 x) (shown keys.1 y) (shown k w.0) later s)
+      ∙ ap (split_nodes key pair (shown keys.0 x) (shown keys.1 y)) (sym p))
+      (cases_eq k key)
+
+-- ---- keys and nodes
+-- the node in the arena with a key that the links show
+pub key_node : (more : ℕ) (s : Slab Node) (at k : ℕ) → HasKey k (follow more s at) → (n : Node) × (get s k ≡ Some n)
+key_node zero s at k h = absurd h
+key_node (suc more) s at k h = ⊎_elim
+    (λ e. absurd (subst (HasKey k) (follow_none more s at e) h))
+    (λ w. by w.0 w.1 (subst (HasKey k) (follow_some more s at w.0 w.1) h) (λ g. key_node more s w.0.next k g))
+    (options (get s at))
+  where
+    by : (m : Node) → get s at ≡ Some m → HasKey k (shown at m ∷ follow more s m.next)
+        → (HasKey k (follow more s m.next) → (n : Node) × (get s k ≡ Some n)) → (n : Node) × (get s k ≡ Some n)
+    by m g (inl q) f = (m, ap (get s) (sym q) ∙ g)
+    by m g (inr q) f = f q
+
+-- a shown node that isn't split is a leaf
+pub uncut_leaf : (more : ℕ) (s : Slab Node) (at k : ℕ) (n : Node) → HasKey k (follow more s at) → get s k ≡ Some n → n.cut ≡ None
+    → LeafAt k n.bound (follow more s at)
+uncut_leaf zero s at k n h e c = absurd h
+uncut_leaf (suc more) s at k n h e c = ⊎_elim
+    (λ g. absurd (subst (HasKey k) (follow_none more s at g) h))
+    (λ w.
+    let p = follow_some more s at w.0 w.1 in
+    subst (LeafAt k n.bound) (sym p) (by w.0 w.1 (subst (HasKey k) p h) (λ g. uncut_leaf more s w.0.next k n g e c)))
+    (options (get s at))
+  where
+    by : (m : Node) → get s at ≡ Some m → HasKey k (shown at m ∷ follow more s m.next)
+        → (HasKey k (follow more s m.next) → LeafAt k n.bound (follow more s m.next)) → LeafAt k n.bound (shown at m ∷ follow more s m.next)
+    by m g (inl q) f =
+        let i : m ≡ n = some_one (get s k) m n (ap (get s) (sym q) ∙ g) e in
+        inl (q, ap (λ (r : Node). r.bound) i, ap (λ (r : Node). r.cut) i ∙ c)
+    by m g (inr q) f = inr (f q)
+
+-- and a leaf is a shown node that isn't split
+pub leaf_uncut : (more : ℕ) (s : Slab Node) (at k : ℕ) (node : NodeBound) → LeafAt k node (follow more s at)
+    → (n : Node) × (get s k ≡ Some n) × (n.bound ≡ node) × (n.cut ≡ None)
+leaf_uncut zero s at k node h = absurd h
+leaf_uncut (suc more) s at k node h = ⊎_elim
+    (λ g. absurd (subst (LeafAt k node) (follow_none more s at g) h))
+    (λ w. by w.0 w.1 (subst (LeafAt k node) (follow_some more s at w.0 w.1) h) (λ g. leaf_uncut more s w.0.next k node g))
+    (options (get s at))
+  where
+    by : (m : Node) → get s at ≡ Some m → LeafAt k node (shown at m ∷ follow more s m.next)
+        → (LeafAt k node (follow more s m.next) → (n : Node) × (get s k ≡ Some n) × (n.bound ≡ node) × (n.cut ≡ None))
+        → (n : Node) × (get s k ≡ Some n) × (n.bound ≡ node) × (n.cut ≡ None)
+    by m g (inl q) f = (m, ap (get s) (sym q.0) ∙ g, q.1, q.2)
+    by m g (inr q) f = f q
+
+-- ---- the tree after a split
+pub replaced : (old new : Slab Node) (key : ℕ) (pair : ℕ × ℕ) (together apart : Fresh) (keys : ℕ × ℕ) (n : Node) → get old key ≡ Some n
+    → Attached old new key pair together apart keys
+    → Replaced old new key pair keys n (leaf_node together keys.1 (side_of key (Together pair.0 pair.1))) (leaf_node apart n.next (side_of key (Apart pair.0 pair.1)))
+replaced old new key pair together apart keys n e a = record {
+  had = e;
+  first_vacant = a.first_vacant;
+  second_vacant = a.second_vacant;
+  split = a.split n e;
+  first = a.first;
+  first_next = refl;
+  second = a.second n e;
+  second_next = refl;
+  others = a.others;
+}
+
+-- the list is the one of the split
+pub split_shown : (old new : Slab Node) (first : ℕ) (root : State) (floor : ℤ) (key : ℕ) (node : NodeBound) (pair : ℕ × ℕ) (together apart : Fresh) (keys : ℕ × ℕ)
+    → AreLinked old first root floor → LeafAt key node (follow (slab_len old) old first) → Attached old new key pair together apart keys
+    → follow (slab_len new) new first ≡ split_nodes key pair (new_leaf keys.0 together) (new_leaf keys.1 apart) (follow (slab_len old) old first)
+split_shown old new first root floor key node pair together apart keys l o a =
+    let w = leaf_uncut (slab_len old) old first key node o in
+    ap (λ k. follow k new first) (two_more (slab_len new) (slab_len old) a.len)
+    ∙ grown old new key pair keys w.0 (leaf_node together keys.1 (side_of key (Together pair.0 pair.1))) (leaf_node apart w.0.next (side_of key (Apart pair.0 pair.1)))
+    (replaced old new key pair together apart keys w.0 w.1 a) node (slab_len old) first l.all l.differ o
+  where
+    two_more : (a b : ℕ) → a ≡ b + 2 → a ≡ suc (suc b)
+    two_more a b e = omega (arith, e)
+
+pub split_linked : (old new : Slab Node) (first : ℕ) (root : State) (floor : ℤ) (key : ℕ) (node : NodeBound) (pair : ℕ × ℕ) (together apart : Fresh) (keys : ℕ × ℕ)
+    → AreLinked old first root floor → LeafAt key node (follow (slab_len old) old first) → Attached old new key pair together apart keys
+    → node.how ≢ Closed → floor <ℤ node.bound
+    → IsFree (state_from key (follow (slab_len old) old first) (root ∷ []) root) pair.0 pair.1
+    → IsFit (decided (state_from key (follow (slab_len old) old first) (root ∷ []) root) (Together pair.0 pair.1)) together
+    → IsFit (decided (state_from key (follow (slab_len old) old first) (root ∷ []) root) (Apart pair.0 pair.1)) apart
+    → AreLinked new first root floor
+split_linked old new first root floor key node pair together apart keys l o a w z f g h =
+    let ns = follow (slab_len old) old first in
+    let same = split_shown old new first root floor key node pair together apart keys l o a in
+    let x = new_leaf keys.0 together in
+    let y = new_leaf keys.1 apart in record {
+      state = l.state;
+      all = ap length same ∙ split_length key node pair x y ns o ∙ (let b = l.all in let c = a.len in omega (arith, b, c));
+      differ = subst KeysDiffer (sym same) (split_differ key pair x y ns l.differ
+          (vacant_not_among (slab_len old) old first keys.0 a.first_vacant) (vacant_not_among (slab_len old) old first keys.1 a.second_vacant) a.differ);
+      trees = subst (λ ms. AreTrees floor ms (root ∷ [])) (sym same)
+          (split_trees floor key node pair x y ns (root ∷ []) root l.differ o l.trees refl refl w z f g h);
+    }
+
+-- ---- an arena that has the same nodes
+pub same_shown : (old new : Slab Node) (first : ℕ) → SameNodes old new → follow (slab_len new) new first ≡ follow (slab_len old) old first
+same_shown old new first s = ap (λ k. follow k new first) s.len ∙ same_follow (slab_len old) old new first s.each
+
+pub same_linked : (old new : Slab Node) (first : ℕ) (root : State) (floor : ℤ) → SameNodes old new → AreLinked old first root floor → AreLinked new first root floor
+same_linked old new first root floor s l =
+    let same = same_shown old new first s in record {
+      state = l.state;
+      all = ap length same ∙ l.all ∙ sym s.len;
+      differ = subst KeysDiffer (sym same) l.differ;
+      trees = subst (λ ns. AreTrees floor ns (root ∷ [])) (sym same) l.trees;
+    }
+
+-- ---- a new tree
+pub one_shown : (nodes : Slab Node) (first : ℕ) (n : Node) → get nodes first ≡ Some n → slab_len nodes ≡ 1
+    → follow (slab_len nodes) nodes first ≡ shown first n ∷ []
+one_shown nodes first n e l = ap (λ k. follow k nodes first) l ∙ follow_some 0 nodes first n e
+
+pub one_linked : (nodes : Slab Node) (first next : ℕ) (root : State) (floor : ℤ) (fresh : Fresh) → get nodes first ≡ Some (leaf_node fresh next None)
+    → slab_len nodes ≡ 1 → IsState root → IsFit root fresh → AreLinked nodes first root floor
+one_linked nodes first next root floor fresh e l i f =
+    let p = one_shown nodes first (leaf_node fresh next None) e l in record {
+      state = i;
+      all = ap length p ∙ sym l;
+      differ = subst KeysDiffer (sym p) (tt, tt);
+      trees = subst (λ ns. AreTrees floor ns (root ∷ [])) (sym p) (f.steps, f.bounded, tt, tt);
+    }
+
+-- ---- the walk along the links
+pub walk_there : (left : ℕ) (s : Slab Node) (key : ℕ) → 0 < left → length (follow left s key) ≡ left
+    → (n : Node) × (get s key ≡ Some n) × (follow left s key ≡ shown key n ∷ follow (left - 1) s n.next)
+walk_there zero s key p l = absurd (omega (arith, p))
+walk_there (suc more) s key p l =
+    let w = first_there more s key l in
+    let e : suc more - 1 ≡ more = omega arith in
+    (w.0, w.1, follow_some more s key w.0 w.1 ∙ ap (λ j. shown key w.0 ∷ follow j s w.0.next) (sym e))
+
+pub walk_step : (left : ℕ) (s : Slab Node) (key : ℕ) (n : Node) (old new all : List Item) → 0 < left → length (follow left s key) ≡ left → get s key ≡ Some n
+    → new ≡ (old ++ map Reduce n.steps) ++ node_item n.bound n.cut ∷ [] → old ++ items_of (follow left s key) ≡ all
+    → (new ++ items_of (follow (left - 1) s n.next) ≡ all) × (length (follow (left - 1) s n.next) ≡ left - 1)
+walk_step left s key n old new all p l e f h =
+    let w = walk_there left s key p l in
+    let i : w.0 ≡ n = some_one (get s key) w.0 n w.1 e in
+    let later = follow (left - 1) s n.next in
+    let g : follow left s key ≡ shown key n ∷ later = w.2 ∙ ap (λ (m : Node). shown key m ∷ follow (left - 1) s m.next) i in
+    let len = ap length g in (
+      ap (λ xs. xs ++ items_of later) f ∙ shift old (map Reduce n.steps) (node_item n.bound n.cut) (items_of later)
+          ∙ ap (λ ns. old ++ items_of ns) (sym g) ∙ h,
+      omega (arith, l, len, p),
+    )
+  where
+    shift : (xs ys : List Item) (z : Item) (zs : List Item) → ((xs ++ ys) ++ (z ∷ [])) ++ zs ≡ xs ++ (ys ++ (z ∷ zs))
+    shift xs ys z zs = append_assoc (xs ++ ys) (z ∷ []) zs ∙ append_assoc xs ys (z ∷ zs)
+
+pub walk_ends : (left : ℕ) (s : Slab Node) (key : ℕ) (items all : List Item) → left ≡ 0 → items ++ items_of (follow left s key) ≡ all → items ≡ all
+walk_ends zero s key items all e h = sym (append-nil items) ∙ h
+walk_ends (suc left) s key items all e h = absurd (omega (arith, e))

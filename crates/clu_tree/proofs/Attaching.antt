@@ -1,0 +1,81 @@
+-- Two inserts and a write of the split node put two new leaves into the arena.
+use Rattle.std.proofs.Common.{◌≡◌, ◌≢◌, ℕ, ◌+◌, sym, ap, ◌∙◌, arith, Option, Some, None, is_some, cond, count_by}
+use Rattle.std.proofs.lemmas.List.Sums.{sum_by-set}
+use Rattle.slab.specs.Slab.{Slab, get, slab_len, with_value, Updates}
+use Rattle.slab.proofs.SlabLemmas.{Updates-with_value, ContainsKey-within}
+use Rattle.clu_state.specs.declared.decision.Decision.TheVariants.{Together, Apart}
+use Rattle.clu_tree.specs.declared.node.Fresh.{Fresh}
+use Rattle.clu_tree.specs.declared.node.Node.{Node}
+use Rattle.clu_tree.specs.Links.{Attached, leaf_node, side_of}
+use Rattle.clu_tree.proofs.Arena.{some_one, not_none}
+use Rattle.clu_tree.proofs.Queued.{there_is}
+
+written_len : (s : Slab Node) (key : ℕ) (m n : Node) → get s key ≡ Some m → slab_len (with_value s key n) ≡ slab_len s
+written_len s key m n e =
+    let h = sum_by-set (λ (o : Option Node). cond (is_some o) 1 0) s.slots key (Some n) None (ContainsKey-within s key (there_is (get s key) m e)) in
+    let one : ◌≡◌ {A = ℕ} (cond (is_some (get s key)) 1 0) 1 = ap (λ o. cond (is_some o) 1 0) e in
+    omega (arith, h, one)
+
+-- the arena before, with room, with the second leaf, and with the first one
+pub record Inserted (old room one two : Slab Node) (key p q : ℕ) (n m x y : Node) : Type 0 where
+  pub slots : room.slots ≡ old.slots
+  pub had : get room key ≡ Some n
+  pub second_vacant : get room q ≡ None
+  pub second : Updates room one q (Some y)
+  pub second_len : slab_len one ≡ slab_len room + 1
+  pub first_vacant : get one p ≡ None
+  pub first : Updates one two p (Some x)
+  pub first_len : slab_len two ≡ slab_len one + 1
+  pub has : get two key ≡ Some m
+
+module _ (old room one two : Slab Node) (key p q : ℕ) (n m x y : Node) (i : Inserted old room one two key p q n m x y) where
+  same : (k : ℕ) → get room k ≡ get old k
+  same k = ap (λ slots. get (record room { slots = slots }) k) i.slots
+
+  same_len : slab_len room ≡ slab_len old
+  same_len = ap (count_by is_some) i.slots
+
+  second_differs : key ≢ q
+  second_differs e = not_none (get room key) n i.had (ap (get room) e ∙ i.second_vacant)
+
+  key_one : get one key ≡ Some n
+  key_one = i.second.others key second_differs ∙ i.had
+
+  first_differs : key ≢ p
+  first_differs e = not_none (get one key) n key_one (ap (get one) e ∙ i.first_vacant)
+
+  both_differ : p ≢ q
+  both_differ e = not_none (get one q) y i.second.changed (sym (ap (get one) e) ∙ i.first_vacant)
+
+  key_two : n ≡ m
+  key_two = some_one (get two key) n m (i.first.others key first_differs ∙ key_one) i.has
+
+pub attached : (old room one two : Slab Node) (key p q : ℕ) (pair : ℕ × ℕ) (together apart : Fresh) (n m : Node)
+    → Inserted old room one two key p q n m (leaf_node together q (side_of key (Together pair.0 pair.1))) (leaf_node apart n.next (side_of key (Apart pair.0 pair.1)))
+    → Attached old (with_value two key (record m { cut = Some pair; next = p })) key pair together apart (p, q)
+attached old room one two key p q pair together apart n m i =
+    let x = leaf_node together q (side_of key (Together pair.0 pair.1)) in
+    let y = leaf_node apart n.next (side_of key (Apart pair.0 pair.1)) in
+    let now = record m { cut = Some pair; next = p } in
+    let written = Updates-with_value two key now (there_is (get two key) m i.has) in
+    let was = same old room one two key p q n m x y i in
+    let differ = both_differ old room one two key p q n m x y i in
+    let not_first = first_differs old room one two key p q n m x y i in
+    let not_second = second_differs old room one two key p q n m x y i in
+    let had = λ (k : Node) (e : get old key ≡ Some k). some_one (get room key) n k i.had (was key ∙ e) in
+    record {
+      len = let h = written_len two key m now i.has in
+          let a = i.first_len in
+          let b = i.second_len in
+          let c = same_len old room one two key p q n m x y i in
+          omega (arith, h, a, b, c);
+      first_vacant = sym (was p) ∙ sym (i.second.others p differ) ∙ i.first_vacant;
+      second_vacant = sym (was q) ∙ i.second_vacant;
+      differ = differ;
+      first = written.others p (λ e. not_first (sym e)) ∙ i.first.changed;
+      second = λ k e. written.others q (λ f. not_second (sym f)) ∙ i.first.others q (λ f. differ (sym f)) ∙ i.second.changed
+          ∙ ap (λ (r : Node). Some (leaf_node apart r.next (side_of key (Apart pair.0 pair.1)))) (had k e);
+      split = λ k e. written.changed ∙ ap (λ (r : Node). Some (record r { cut = Some pair; next = p }))
+          (sym (key_two old room one two key p q n m x y i) ∙ had k e);
+      others = λ k d e f. written.others k d ∙ i.first.others k e ∙ i.second.others k f ∙ was k;
+    }

@@ -1,0 +1,11 @@
+pub mod Arena
+pub mod Attaching
+pub mod Climb
+pub mod Fitting
+pub mod KeyLaws
+pub mod QueueLaws
+pub mod Queued
+pub mod RootLaws
+pub mod SplitLaws
+pub mod Telling
+pub mod Uppers

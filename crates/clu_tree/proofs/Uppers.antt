@@ -1,0 +1,147 @@
+-- The items of a tree: they are read whole from its root's state, their upper is the greatest bound of a leaf, and half of the
+-- nodes are branches.
+use Rattle.std.proofs.Common.{◌≡◌, ℕ, ◌+◌, ◌/◌, ℤ, ◌≤ℤ◌, inl, inr, List, [], ◌∷◌, ◌++◌, length, map, Option, Some, None, All, Contains, refl, sym, ap, ◌∙◌, subst, arith}
+use Rattle.std.proofs.lemmas.List.Elements.{All-nil, All-cons, Contains-append_right}
+use Rattle.clu_state.specs.State.{State, decided}
+use Rattle.clu_state.specs.declared.decision.Decision.TheVariants.{Together, Apart}
+use Rattle.clu_reduce.specs.Reduction.{decision_of}
+use Rattle.clu_reduce.specs.declared.step.Step.{Step}
+use Rattle.clu_node.specs.Node.{IsBounded}
+use Rattle.clu_node.specs.declared.bound.NodeBound.{NodeBound}
+use Rattle.clu_cert.specs.Upper.{Reads, none, branch, reduce, leaf, HasUpper}
+use Rattle.clu_cert.specs.Valid.{AllHold, stepped}
+use Rattle.clu_cert.specs.declared.certificate.Item.{Item}
+use Rattle.clu_cert.specs.declared.certificate.Item.TheVariants.{Reduce, Leaf}
+use Rattle.clu_tree.specs.Items.{branch_items}
+use Rattle.clu_tree.specs.Nodes.{Shown, pending, IsCut, AreTrees, LeafAt, node_item, items_of}
+
+-- ---- the bounds of the leaves
+abbrev with_bound : Option (ℕ × ℕ) → ℤ → List ℤ → List ℤ
+with_bound None bound bounds = bound ∷ bounds
+with_bound (Some pair) bound bounds = bounds
+
+-- in preorder
+abbrev leaf_bounds : List Shown → List ℤ
+leaf_bounds [] = []
+leaf_bounds (n ∷ ns) = with_bound n.cut n.node.bound (leaf_bounds ns)
+
+-- ---- the reading
+steps_read : (steps : List Step) (s : State) (later left : List State) (items : List Item) (bounds : List ℤ) → AllHold s steps
+    → Reads (stepped s steps ∷ later) items bounds left → Reads (s ∷ later) (map Reduce steps ++ items) bounds left
+steps_read [] s later left items bounds h r = r
+steps_read (step ∷ steps) s later left items bounds h r =
+    reduce h.0 (steps_read steps (decided s (decision_of step)) later left items bounds h.1 r)
+
+item_reads : (floor : ℤ) (s : State) (later : List State) (node : NodeBound) (cut : Option (ℕ × ℕ)) (items : List Item) (bounds : List ℤ)
+    → IsBounded s node → IsCut floor s node cut → Reads (pending cut s later) items bounds []
+    → Reads (s ∷ later) (node_item node cut ∷ items) (with_bound cut node.bound bounds) []
+item_reads floor s later node None items bounds b c r =
+    subst (λ bound. Reads (s ∷ later) (Leaf node.leaf ∷ items) (bound ∷ bounds) []) (sym b.bound) (leaf (record { den = b.den; rows = b.rows }) r)
+item_reads floor s later node (Some pair) items bounds b c r = branch c.0 r
+
+trees_read : (floor : ℤ) (ns : List Shown) (states : List State) → AreTrees floor ns states → Reads states (items_of ns) (leaf_bounds ns) []
+trees_read floor [] [] t = none
+trees_read floor [] (s ∷ later) t = absurd t
+trees_read floor (n ∷ ns) [] t = absurd t
+trees_read floor (n ∷ ns) (s ∷ later) t =
+    let here = stepped s n.steps in
+    steps_read n.steps s later [] (node_item n.node n.cut ∷ items_of ns) (leaf_bounds (n ∷ ns)) t.0
+    (item_reads floor here later n.node n.cut (items_of ns) (leaf_bounds ns) t.1 t.2
+    (trees_read floor ns (pending n.cut here later) t.3))
+
+-- ---- the upper
+first_bound : (cut : Option (ℕ × ℕ)) (bound : ℤ) (bounds : List ℤ) → cut ≡ None → Contains (with_bound cut bound bounds) bound
+first_bound None bound bounds e = (0, omega arith, refl)
+first_bound (Some pair) bound bounds e = absurd cc
+
+later_bound : (cut : Option (ℕ × ℕ)) (bound other : ℤ) (bounds : List ℤ) → Contains bounds other → Contains (with_bound cut bound bounds) other
+later_bound None bound other bounds c = Contains-append_right (bound ∷ []) bounds other c
+later_bound (Some pair) bound other bounds c = c
+
+leaf_reached : (key : ℕ) (node : NodeBound) (ns : List Shown) → LeafAt key node ns → Contains (leaf_bounds ns) node.bound
+leaf_reached key node [] l = absurd l
+leaf_reached key node (n ∷ ns) (inl l) = subst (λ (m : NodeBound). Contains (leaf_bounds (n ∷ ns)) m.bound) l.1
+    (first_bound n.cut n.node.bound (leaf_bounds ns) l.2)
+leaf_reached key node (n ∷ ns) (inr l) = later_bound n.cut n.node.bound node.bound (leaf_bounds ns) (leaf_reached key node ns l)
+
+one_more : (upper bound : ℤ) (cut : Option (ℕ × ℕ)) (bounds : List ℤ) → (cut ≡ None → bound ≤ℤ upper) → All (λ b. b ≤ℤ upper) bounds
+    → All (λ b. b ≤ℤ upper) (with_bound cut bound bounds)
+one_more upper bound None bounds f a = All-cons (λ b. b ≤ℤ upper) bound bounds (f refl) a
+one_more upper bound (Some pair) bounds f a = a
+
+all_most : (upper : ℤ) (ns : List Shown) → ((key : ℕ) (node : NodeBound) → LeafAt key node ns → node.bound ≤ℤ upper)
+    → All (λ b. b ≤ℤ upper) (leaf_bounds ns)
+all_most upper [] f = All-nil (λ b. b ≤ℤ upper)
+all_most upper (n ∷ ns) f = one_more upper n.node.bound n.cut (leaf_bounds ns) (λ e. f n.key n.node (inl (refl, refl, e)))
+    (all_most upper ns (λ key node l. f key node (inr l)))
+
+-- the bound of a leaf that no leaf's bound passes is the upper
+pub greatest_upper : (floor : ℤ) (ns : List Shown) (root : State) (key : ℕ) (node : NodeBound) (upper : ℤ) → AreTrees floor ns (root ∷ [])
+    → LeafAt key node ns → node.bound ≡ upper → ((other : ℕ) (m : NodeBound) → LeafAt other m ns → m.bound ≤ℤ upper) → HasUpper root (items_of ns) upper
+greatest_upper floor ns root key node upper t l e f = record {
+  bounds = leaf_bounds ns;
+  tree = trees_read floor ns (root ∷ []) t;
+  reached = subst (Contains (leaf_bounds ns)) e (leaf_reached key node ns l);
+  greatest = all_most upper ns f;
+}
+
+-- trees have a leaf
+pub some_leaf : (floor : ℤ) (ns : List Shown) (s : State) (later : List State) → AreTrees floor ns (s ∷ later)
+    → (key : ℕ) × (node : NodeBound) × LeafAt key node ns
+some_leaf floor [] s later t = absurd t
+some_leaf floor (n ∷ ns) s later t = by n.cut refl t.3 (λ r rs u. some_leaf floor ns r rs u)
+  where
+    by : (cut : Option (ℕ × ℕ)) → n.cut ≡ cut → AreTrees floor ns (pending cut (stepped s n.steps) later)
+        → ((r : State) (rs : List State) → AreTrees floor ns (r ∷ rs) → (key : ℕ) × (node : NodeBound) × LeafAt key node ns)
+        → (key : ℕ) × (node : NodeBound) × LeafAt key node (n ∷ ns)
+    by None e u f = (n.key, n.node, inl (refl, refl, e))
+    by (Some pair) e u f =
+        let w = f (decided (stepped s n.steps) (Together pair.0 pair.1)) (decided (stepped s n.steps) (Apart pair.0 pair.1) ∷ later) u in
+        (w.0, w.1, inr w.2)
+
+-- ---- how many branches
+abbrev cuts_of : Option (ℕ × ℕ) → ℕ
+cuts_of None = 0
+cuts_of (Some pair) = 1
+
+abbrev cuts : List Shown → ℕ
+cuts [] = 0
+cuts (n ∷ ns) = cuts_of n.cut + cuts ns
+
+step_branches : (steps : List Step) (items : List Item) → branch_items (map Reduce steps ++ items) ≡ branch_items items
+step_branches [] items = refl
+step_branches (step ∷ steps) items = step_branches steps items
+
+item_branches : (node : NodeBound) (cut : Option (ℕ × ℕ)) (items : List Item) → branch_items (node_item node cut ∷ items) ≡ cuts_of cut + branch_items items
+item_branches node None items = omega arith
+item_branches node (Some pair) items = omega arith
+
+branches_cuts : (ns : List Shown) → branch_items (items_of ns) ≡ cuts ns
+branches_cuts [] = refl
+branches_cuts (n ∷ ns) = step_branches n.steps (node_item n.node n.cut ∷ items_of ns) ∙ item_branches n.node n.cut (items_of ns)
+    ∙ ap (λ k. cuts_of n.cut + k) (branches_cuts ns)
+
+pending_length : (cut : Option (ℕ × ℕ)) (s : State) (later : List State) → length (pending cut s later) ≡ cuts_of cut + cuts_of cut + length later
+pending_length None s later = omega arith
+pending_length (Some pair) s later = omega arith
+
+trees_length : (floor : ℤ) (ns : List Shown) (states : List State) → AreTrees floor ns states → length ns ≡ cuts ns + cuts ns + length states
+trees_length floor [] [] t = omega arith
+trees_length floor [] (s ∷ later) t = absurd t
+trees_length floor (n ∷ ns) [] t = absurd t
+trees_length floor (n ∷ ns) (s ∷ later) t =
+    let h = trees_length floor ns (pending n.cut (stepped s n.steps) later) t.3 in
+    let k = pending_length n.cut (stepped s n.steps) later in
+    omega (arith, h, k)
+
+-- twice the branches and one more node
+pub branches_length : (floor : ℤ) (ns : List Shown) (root : State) → AreTrees floor ns (root ∷ [])
+    → length ns ≡ branch_items (items_of ns) + branch_items (items_of ns) + 1
+branches_length floor ns root t =
+    let h = trees_length floor ns (root ∷ []) t in
+    let k = branches_cuts ns in
+    omega (arith, h, k)
+
+-- half of the nodes
+pub half_branches : (floor : ℤ) (ns : List Shown) (root : State) → AreTrees floor ns (root ∷ []) → length ns / 2 ≡ branch_items (items_of ns)
+half_branches floor ns root t = let h = branches_length floor ns root t in omega (arith, h)

@@ -1,0 +1,28 @@
+//! Decisions that are told from the last to the first.
+
+ghost use Rattle.std.specs.Prelude.{◌≡◌, ◌++◌, map, reverse, OnOk};
+ghost use Rattle.clu_reduce.specs.Reduction.{decision_of};
+
+use clu_reduce::Step;
+use clu_state::Decision;
+use std::alloc::AllocError;
+
+/// Adds what the steps decide, the last first.
+pub(crate) fn push_steps_back(steps: &[Step], path: &mut Vec<Decision>) -> Result<(), AllocError>
+    ensures { OnOk result (path.new.items ≡ path.old.items ++ reverse (map decision_of steps.now)) }
+{
+    for i in (0..steps.len()).rev() {
+        path.push(steps[i].decision())?;
+    }
+    Ok(())
+}
+
+/// Adds the decisions, the last first.
+pub(crate) fn push_back(decisions: &[Decision], path: &mut Vec<Decision>) -> Result<(), AllocError>
+    ensures { OnOk result (path.new.items ≡ path.old.items ++ reverse decisions.now) }
+{
+    for i in (0..decisions.len()).rev() {
+        path.push(decisions[i])?;
+    }
+    Ok(())
+}
