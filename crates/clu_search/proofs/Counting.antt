@@ -1,0 +1,136 @@
+-- Partitions of a state's class that divide the members differently, and that closed rules permit no more of them than are counted.
+use Rattle.std.proofs.Common.{◌≡◌, ℕ, ◌≤◌, ◌<◌, ◌≢◌, ◌+◌, inl, List, [], ◌∷◌, ◌++◌, length, slice_index, All, Contains, Some, refl, sym, ap, ◌∙◌, subst, arith, suc, true, not, ◌==◌, length-append}
+use Rattle.std.specs.Option.{IfSome}
+use Rattle.std.proofs.lemmas.Bool.{eq-eqb, ne_eqb, and_from}
+use Rattle.std.proofs.lemmas.List.Elements.{All-pop}
+use Rattle.std.proofs.lemmas.List.Sums.{list_all-from_AllPass}
+use Rattle.std.proofs.lemmas.List.FromFn.{get_or-map-range_with_len}
+use Rattle.clu_partition.specs.Partition.{below}
+use Rattle.clu_partition.specs.Closed.{Closed, IsClosed}
+use Rattle.clu_partition.proofs.SumLaws.{Each, Among}
+use Rattle.clu_partition.proofs.ListLaws.{each_map}
+use Rattle.clu_partition.proofs.Ranges.{below_size}
+use Rattle.clu_partition.proofs.RangeLaws.{among_range}
+use Rattle.clu_state.specs.State.{State, IsState, InClass, Obeys, IsFree, leader, decided}
+use Rattle.clu_state.specs.declared.decision.Decision.{Decision}
+use Rattle.clu_state.specs.declared.decision.Decision.TheVariants.{Together, Apart}
+use Rattle.clu_state.proofs.Whole.{all_members, among_below}
+use Rattle.clu_search.specs.Count.{label_lists, permits, permitted, count}
+use Rattle.clu_search.proofs.Own.{own_class}
+use Rattle.clu_search.proofs.Pigeon.{Pairwise, each_append, each_cross, pairwise_append, among_filtered, pigeon_mapped}
+use Rattle.clu_search.proofs.Canon.{Differ, canonical, numbered, canonical_listed, canonical_differ, numbered_tells, numbered_same}
+
+-- ---- partitions of a class
+-- k + 1 partitions of the class, any two of which divide the members differently
+pub record Family (s : State) (k : ℕ) : Type 0 where
+  pub labellings : List (ℕ → ℕ)
+  pub many : length labellings ≡ suc k
+  pub within : Each (InClass s) labellings
+  pub differ : Pairwise (Differ s.members) labellings
+
+-- the partition into the groups
+pub own_family : (s : State) → IsState s → Family s 0
+own_family s i = record { labellings = leader s ∷ []; many = refl; within = (own_class s i, tt); differ = (tt, tt) }
+
+-- a partition of the class after a decision obeys those before it, and this one
+obeyed : (s : State) (d : Decision) (label : ℕ → ℕ) → InClass (decided s d) label → All (Obeys label) s.decisions × IfSome (Some d) (Obeys label)
+obeyed s d label c = All-pop (Obeys label) (s.decisions ++ d ∷ []) s.decisions (Some d) refl c.decisions
+
+pub class_before : (s : State) (d : Decision) (label : ℕ → ℕ) → InClass (decided s d) label → InClass s label
+class_before s d label c = record { required = c.required; forbidden = c.forbidden; decisions = (obeyed s d label c).0 }
+
+pub class_obeys : (s : State) (d : Decision) (label : ℕ → ℕ) → InClass (decided s d) label → Obeys label d
+class_obeys s d label c = (obeyed s d label c).1
+
+each_before : (s : State) (d : Decision) (labellings : List (ℕ → ℕ)) → Each (InClass (decided s d)) labellings → Each (InClass s) labellings
+each_before s d labellings a = each_map (InClass (decided s d)) (InClass s) labellings (class_before s d) a
+
+-- those after a decision are of the class before it
+pub family_before : (s : State) (d : Decision) (k : ℕ) → Family (decided s d) k → Family s k
+family_before s d k f = record {
+  labellings = f.labellings;
+  many = f.many;
+  within = each_before s d f.labellings f.within;
+  differ = f.differ;
+}
+
+-- a free pair tells those that have it together from those that have it apart
+pub family_split : (s : State) (u v k l : ℕ) → IsFree s u v → Family (decided s (Together u v)) k → Family (decided s (Apart u v)) l →
+    Family s (suc (k + l))
+family_split s u v k l f a b = record {
+  labellings = a.labellings ++ b.labellings;
+  many = let h = length-append a.labellings b.labellings in let m = a.many in let n = b.many in omega (arith, h, m, n);
+  within = each_append (InClass s) a.labellings b.labellings
+      (each_before s (Together u v) a.labellings a.within) (each_before s (Apart u v) b.labellings b.within);
+  differ = pairwise_append (Differ s.members) a.labellings b.labellings a.differ b.differ
+      (each_cross (InClass (decided s (Together u v))) (InClass (decided s (Apart u v))) (Differ s.members) a.labellings b.labellings
+      (λ g h c d. record {
+        u = u;
+        v = v;
+        first = f.first;
+        second = f.second;
+        tells = inl (class_obeys s (Together u v) g c, class_obeys s (Apart u v) h d);
+      })
+      a.within b.within);
+}
+
+-- ---- partitions that the rules permit
+-- a partition of the members that obeys the rules among them
+pub record Permits (c : Closed) (members : List ℕ) (label : ℕ → ℕ) : Type 0 where
+  pub required : All (λ v. label (slice_index c.group v) ≡ label v) members
+  pub forbidden : All (λ p. Contains members p.0 → Contains members p.1 → label p.0 ≢ label p.1) c.forbidden
+
+-- so many of them, any two of which divide the members differently
+pub record Permitted (c : Closed) (members : List ℕ) (many : ℕ) : Type 0 where
+  pub labellings : List (ℕ → ℕ)
+  pub many_are : length labellings ≡ many
+  pub within : Each (Permits c members) labellings
+  pub differ : Pairwise (Differ members) labellings
+
+pub family_permitted : (s : State) (k : ℕ) → Family s k → Permitted s.start s.members (suc k)
+family_permitted s k f = record {
+  labellings = f.labellings;
+  many_are = f.many;
+  within = each_map (InClass s) (Permits s.start s.members) f.labellings
+      (λ label c. record { required = c.required; forbidden = c.forbidden }) f.within;
+  differ = f.differ;
+}
+
+-- ---- they are no more than the lists
+numbered_at : (label : ℕ → ℕ) (n v : ℕ) → v < n → slice_index (canonical label (below n)) v ≡ numbered label (below n) v
+numbered_at label n v l = get_or-map-range_with_len (numbered label (below n)) 0 n v v 0 l (omega arith)
+
+among_all : (n v : ℕ) → v < n → Among v (below n)
+among_all n v l = among_range 0 n v (omega arith) (omega (arith, l))
+
+tied_pass : (c : Closed) → IsClosed c → (label : ℕ → ℕ) → (v : ℕ) → v < length c.group → label (slice_index c.group v) ≡ label v →
+    (slice_index (canonical label (below (length c.group))) (slice_index c.group v) == slice_index (canonical label (below (length c.group))) v) ≡ true
+tied_pass c i label v l e =
+    let b = i.below v l in
+    eq-eqb _ _ (numbered_at label (length c.group) (slice_index c.group v) (omega (arith, b, l))
+    ∙ numbered_same label (below (length c.group)) (slice_index c.group v) v e ∙ sym (numbered_at label (length c.group) v l))
+
+split_pass : (n : ℕ) (label : ℕ → ℕ) (u v : ℕ) → u < n → v < n → label u ≢ label v →
+    not (slice_index (canonical label (below n)) u == slice_index (canonical label (below n)) v) ≡ true
+split_pass n label u v k l d = ap not (ne_eqb _ _ (λ e.
+    d (numbered_tells label (below n) u v (among_all n u k) (sym (numbered_at label n u k) ∙ e ∙ numbered_at label n v l))))
+
+canonical_permits : (c : Closed) → IsClosed c → (label : ℕ → ℕ) → Permits c (below (length c.group)) label →
+    permits c (slice_index (canonical label (below (length c.group)))) ≡ true
+canonical_permits c i label p = and_from _ _
+    (list_all-from_AllPass _ (below (length c.group)) (λ k d l.
+    tied_pass c i label _ ((all_members c i).below k d l) (p.required k d l)))
+    (list_all-from_AllPass _ c.forbidden (λ k d l.
+    let r = i.in_range k d l in
+    split_pass (length c.group) label _ _ r.0 r.1 (p.forbidden k d l (among_below (length c.group) _ r.0) (among_below (length c.group) _ r.1))))
+
+pub permitted_counted : (c : Closed) (many : ℕ) → IsClosed c → Permitted c (below (length c.group)) many → many ≤ count c
+permitted_counted c many i f =
+    let all : List ℕ = below (length c.group) in
+    let h = pigeon_mapped (Differ all) (λ label. canonical label all) f.labellings (permitted c) (canonical_differ all) f.differ
+    (each_map (Permits c all) (λ label. Among (canonical label all) (permitted c)) f.labellings (λ label p.
+    among_filtered (λ labels. permits c (slice_index labels)) (canonical label all) (label_lists (length c.group) 0)
+    (subst (λ n. Among (canonical label all) (label_lists n 0)) (below_size (length c.group)) (canonical_listed label all))
+    (canonical_permits c i label p)) f.within) in
+    let k = f.many_are in
+    omega (arith, h, k)

@@ -1,0 +1,11 @@
+pub mod Canon
+pub mod Certified
+pub mod Counted
+pub mod Counting
+pub mod Incumbents
+pub mod Own
+pub mod PartsCounted
+pub mod Pigeon
+pub mod Products
+pub mod Searching
+pub mod Solved

@@ -1,0 +1,212 @@
+-- The steps of a search: a node is finished, and an open leaf is split on its pair.
+use Rattle.std.proofs.Common.{◌≡◌, ◌≢◌, ◌⊎◌, inl, inr, ⊎_elim, ℕ, ◌<◌, ◌≤◌, ◌^◌, ℤ, ◌≤ℤ◌, List, [], ◌∷◌, ◌++◌, None, Result, Ok, Err, OnOk, refl, sym, ap, ◌∙◌, subst, arith, length, map}
+use Rattle.std.specs.List.{AllByRecursion}
+use Rattle.std.proofs.lemmas.Int.{ints}
+use Rattle.clu_partition.specs.Closed.{Closed as Rules, IsClosed}
+use Rattle.clu_partition.specs.Pairs.{Pairs}
+use Rattle.clu_partition.specs.Partition.{below}
+use Rattle.clu_objective.specs.Problem.{Posed, IsPosed}
+use Rattle.clu_state.specs.State.{State, IsState}
+use Rattle.clu_state.specs.declared.decision.Decision.{Decision}
+use Rattle.clu_node.specs.declared.bound.NodeBound.{NodeBound}
+use Rattle.clu_node.specs.declared.bound.How.TheVariants.{Closed}
+use Rattle.clu_cert.specs.Fits.{ItemFits}
+use Rattle.clu_cert.specs.Upper.{HasUpper}
+use Rattle.clu_cert.specs.Valid.{whole}
+use Rattle.clu_cert.specs.declared.certificate.Item.{Item}
+use Rattle.clu_cert.specs.declared.certificate.Item.TheVariants.{Reduce, Leaf}
+use Rattle.clu_reduce.specs.declared.step.Step.{Step}
+use Rattle.clu_cert.proofs.States.{IsTask, whole_is_state}
+use Rattle.clu_tree.specs.Items.{branch_items}
+use Rattle.clu_tree.specs.Nodes.{Tree, Shown, BoundAt, HasKey, LeafAt, IsOpen, items_of, new_leaf}
+use Rattle.clu_tree.specs.declared.node.Fresh.{Fresh}
+use Rattle.clu_search.specs.Incumbent.{IsIncumbent}
+use Rattle.clu_search.specs.Search.{AreSettled, IsAbove, IsCertified, IsSearch, IsSettled, made}
+use Rattle.clu_search.specs.Whole.{certificate_of}
+use Rattle.clu_search.specs.declared.incumbent.Incumbent.{Incumbent}
+use Rattle.clu_search.specs.declared.search.Search.{Search}
+use Rattle.clu_search.proofs.Certified.{IsFound, found_valid, found_exact, found_fits, found_branchings, found_optimal}
+
+pub task_of : (problem : Posed) (start : Rules) → IsPosed problem → IsState (whole problem start) → IsTask problem start
+task_of problem start posed i = record { posed = posed; closed = i.closed; size = sym i.one_size; few = i.small }
+
+-- ---- one node
+-- a better partition settles no less
+pub settled_more : (best more : ℤ) (node : NodeBound) → best ≤ℤ more → IsSettled best node → IsSettled more node
+settled_more best more node low s = record {
+  closed = λ e. let h = s.closed e in omega (arith, ints, h, low);
+  paired = s.paired;
+}
+
+-- ---- a leaf among the nodes
+pub leaf_bound : (key : ℕ) (node : NodeBound) (ns : List Shown) → LeafAt key node ns → BoundAt key node ns
+leaf_bound key node [] h = absurd h
+leaf_bound key node (n ∷ ns) h = ⊎_elim (λ e. inl (e.0, e.1)) (λ r. inr (leaf_bound key node ns r)) h
+
+pub leaf_key : (key : ℕ) (node : NodeBound) (ns : List Shown) → LeafAt key node ns → HasKey key ns
+leaf_key key node [] h = absurd h
+leaf_key key node (n ∷ ns) h = ⊎_elim (λ e. inl e.0) (λ r. inr (leaf_key key node ns r)) h
+
+-- a leaf with a bound above the best value isn't closed
+pub unclosed : (s : Search) (key : ℕ) → IsSearch s → (a : IsAbove s key) → a.node.how ≢ Closed
+unclosed s key i a e =
+    let h = (i.settled key a.node (leaf_bound key a.node s.tree.nodes a.leaf)).closed e in
+    let above = a.above in
+    omega (arith, ints, h, above)
+
+pub open_leaf : (s : Search) (key : ℕ) → IsSearch s → IsAbove s key → IsOpen s.tree key
+open_leaf s key i a = record {
+  node = a.node;
+  leaf = a.leaf;
+  unclosed = unclosed s key i a;
+  above = let floor = i.floor in let above = a.above in omega (arith, ints, floor, above);
+}
+
+-- and has a free pair
+pub no_pair : (s : Search) (key : ℕ) (node : NodeBound) → IsSearch s → IsAbove s key →
+    ((other : NodeBound) → BoundAt key other s.tree.nodes → other ≡ node) → node.pair ≡ None → ⊥
+no_pair s key node i a only e =
+    let at = leaf_bound key a.node s.tree.nodes a.leaf in
+    unclosed s key i a ((i.settled key a.node at).paired (ap (λ (n : NodeBound). n.pair) (only a.node at) ∙ e))
+
+-- ---- a split
+-- the nodes of the old tree and two new ones are settled
+pub settled_split : (best : ℤ) (old new : List Shown) (first second : ℕ) (together apart : NodeBound) →
+    ((key : ℕ) (node : NodeBound) → BoundAt key node new →
+    BoundAt key node old ⊎ (((key ≡ first) × (node ≡ together)) ⊎ ((key ≡ second) × (node ≡ apart)))) →
+    AreSettled best old → IsSettled best together → IsSettled best apart → AreSettled best new
+settled_split best old new first second together apart bounds all one two key node at = ⊎_elim
+    (λ b. all key node b)
+    (λ r. ⊎_elim
+    (λ e. subst (IsSettled best) (sym e.1) one)
+    (λ e. subst (IsSettled best) (sym e.1) two)
+    r)
+    (bounds key node at)
+
+-- the same tree but for its nodes
+pub with_nodes : (s : Search) (t : Tree) (ns : List Shown) → IsSearch s → t ≡ record s.tree { nodes = ns } → AreSettled s.incumbent.value t.nodes →
+    IsSearch (record s { tree = t })
+with_nodes s t ns i e settled = record {
+  posed = i.posed;
+  state = i.state;
+  vertices = i.vertices;
+  root = ap (λ (r : Tree). r.root) e ∙ i.root;
+  floor = subst (λ z. z ≤ℤ s.incumbent.value) (sym (ap (λ (r : Tree). r.floor) e)) i.floor;
+  room = i.room;
+  known = i.known;
+  settled = settled;
+}
+
+-- the same search with a better partition
+pub with_best : (s : Search) (best : Incumbent) (scratch : Pairs) → IsSearch s → s.incumbent.value ≤ℤ best.value → s.problem.now.pairs.n ≤ scratch.n →
+    IsIncumbent s.problem.now.pairs s.start.now best → IsSearch (record s { incumbent = best; scratch = scratch })
+with_best s best scratch i more room known = record {
+  posed = i.posed;
+  state = i.state;
+  vertices = i.vertices;
+  root = i.root;
+  floor = let floor = i.floor in omega (arith, ints, floor, more);
+  room = room;
+  known = known;
+  settled = λ key node at. settled_more s.incumbent.value best.value node more (i.settled key node at);
+}
+
+-- ---- the certificate
+pub found_of : (s : Search) (items : List Item) (z upper : ℤ) → IsSearch s → items ≡ items_of s.tree.nodes → z ≡ upper →
+    HasUpper s.tree.root (items_of s.tree.nodes) upper → IsFound s.problem.now s.start.now s.incumbent items z
+found_of s items z upper i are is h = record {
+  task = task_of s.problem.now s.start.now i.posed i.state;
+  known = i.known;
+  proved = subst (λ v. HasUpper (whole s.problem.now s.start.now) items v) (sym is)
+      (subst (λ is. HasUpper (whole s.problem.now s.start.now) is upper) (sym are)
+      (subst (λ t. HasUpper t (items_of s.tree.nodes) upper) i.root h));
+}
+
+-- the greatest bound of a leaf
+abbrev pub IsReached : Search → ℤ → Type 0
+IsReached s upper = (key : ℕ) × (node : NodeBound) × LeafAt key node s.tree.nodes × (node.bound ≡ upper)
+
+pub certified : (s : Search) (items : List Item) (z : ℤ) → IsFound s.problem.now s.start.now s.incumbent items z →
+    items ≡ items_of s.tree.nodes → IsReached s z → length items < 2 ^ 64 → AllByRecursion ItemFits items →
+    IsCertified s (certificate_of s.problem.now s.incumbent items z)
+certified s items z f are reached count each = record {
+  valid = found_valid s.problem.now s.start.now s.incumbent items z f;
+  exact = found_exact s.problem.now s.start.now s.incumbent items z f;
+  fits = found_fits s.problem.now s.start.now s.incumbent items z f count each;
+  labels = refl;
+  branchings = found_branchings s.problem.now s.start.now s.incumbent items z f ∙ ap branch_items are;
+  optimal = λ done. found_optimal s.problem.now s.start.now s.incumbent items z f
+      (let h = done reached.0 reached.1 reached.2 in let e = reached.3 in omega (arith, ints, h, e));
+}
+
+-- ---- the ends of the steps
+ok_both : {T E : Type 0} (r : Result T E) (P Q R : Type 0) → (P → Q → R) → OnOk r P → OnOk r Q → OnOk r R
+ok_both (Ok x) P Q R f p q = f p q
+ok_both (Err e) P Q R f p q = tt
+
+-- the groups of a state of the search were tried
+pub with_fresh : {T E : Type 0} (s : Search) (t : State) (ds : List Decision) (best : Incumbent) (scratch : Pairs) (r : Result T E) → IsSearch s →
+    t ≡ record (whole s.problem.now s.start.now) { decisions = ds } → OnOk r (IsIncumbent t.pairs t.start best) →
+    OnOk r (s.incumbent.value ≤ℤ best.value) → scratch.n ≡ s.scratch.n → OnOk r (IsSearch (record s { incumbent = best; scratch = scratch }))
+with_fresh s t ds best scratch r i e known more room =
+    ok_both r (IsIncumbent t.pairs t.start best) (s.incumbent.value ≤ℤ best.value) (IsSearch (record s { incumbent = best; scratch = scratch }))
+    (λ k m. with_best s best scratch i m (let had = i.room in omega (arith, had, room)) (subst (λ (u : State). IsIncumbent u.pairs u.start best) e k))
+    known more
+
+-- the rules are for the problem
+pub state_for : (problem seen : Posed) (start : Rules) (n : ℕ) → seen ≡ problem → IsPosed seen → IsClosed start → n ≡ seen.pairs.n → n ≤ 1000 →
+    length start.group ≡ problem.pairs.n → IsState (whole problem start)
+state_for problem seen start n e posed closed size few for = whole_is_state problem start (record {
+  posed = subst IsPosed e posed;
+  closed = closed;
+  size = for;
+  few = let same = ap (λ (p : Posed). p.pairs.n) e in omega (arith, same, size, few);
+})
+
+-- ---- the root
+-- the tree of all vertices, of which the root alone stands
+abbrev pub IsRoot : Posed → Rules → ℤ → Fresh → Tree → Type 0
+IsRoot problem start floor fresh t =
+    (key : ℕ) × (t ≡ record { root = whole problem start; floor = floor; nodes = new_leaf key fresh ∷ [] })
+
+pub root_of : (problem : Posed) (start : Rules) (pairs : Pairs) (members : List ℕ) (floor : ℤ) (fresh : Fresh) (t : Tree) → pairs ≡ problem.pairs →
+    members ≡ below problem.pairs.n → (key : ℕ) × (t ≡ record {
+      root = record { pairs = pairs; start = start; members = members; decisions = [] };
+      floor = floor;
+      nodes = new_leaf key fresh ∷ [];
+    }) → IsRoot problem start floor fresh t
+root_of problem start pairs members floor fresh t e f is = (
+  is.0,
+  is.1 ∙ (λ i. record {
+    root = record { pairs = e i; start = start; members = f i; decisions = [] };
+    floor = floor;
+    nodes = new_leaf is.0 fresh ∷ [];
+  }),
+)
+
+pub first_search : (s : Search) (fresh : Fresh) (floor : ℤ) → IsPosed s.problem.now → IsState (whole s.problem.now s.start.now) →
+    s.vertices ≡ below s.problem.now.pairs.n → IsRoot s.problem.now s.start.now floor fresh s.tree → floor ≡ s.incumbent.value →
+    s.problem.now.pairs.n ≤ s.scratch.n → IsIncumbent s.problem.now.pairs s.start.now s.incumbent → IsSettled s.incumbent.value fresh.bound →
+    IsSearch s
+first_search s fresh floor posed state vertices root is room known settled = record {
+  posed = posed;
+  state = state;
+  vertices = vertices;
+  root = ap (λ (t : Tree). t.root) root.1;
+  floor = let e = ap (λ (t : Tree). t.floor) root.1 in omega (arith, ints, e, is);
+  room = room;
+  known = known;
+  settled = subst (AreSettled s.incumbent.value) (sym (ap (λ (t : Tree). t.nodes) root.1)) one;
+}
+  where
+    one : AreSettled s.incumbent.value (new_leaf root.0 fresh ∷ [])
+    one key node at = ⊎_elim (λ e. subst (IsSettled s.incumbent.value) e.1 settled) absurd at
+
+pub none_made : (s : Search) (fresh : Fresh) (floor : ℤ) →
+    IsRoot s.problem.now s.start.now floor fresh s.tree → made s ≡ 0
+none_made s fresh floor root =
+    ap (λ (t : Tree). branch_items (items_of t.nodes)) root.1 ∙ no_branch fresh.steps
+  where
+    no_branch : (steps : List Step) → branch_items (map Reduce steps ++ Leaf fresh.bound.leaf ∷ []) ≡ 0
+    no_branch [] = refl
+    no_branch (step ∷ steps) = no_branch steps

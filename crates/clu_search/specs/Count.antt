@@ -1,0 +1,29 @@
+-- The partitions that closed rules permit, as a list, and how many they are.
+use Rattle.std.specs.Prelude.{ℕ, List, [], ◌∷◌, ◌++◌, Bool, not, ◌&&◌, ◌==◌, length, map, slice_index, filter, zero, suc}
+use Rattle.std.specs.List.{list_all}
+use Rattle.clu_partition.specs.Partition.{below}
+use Rattle.clu_partition.specs.Closed.{Closed}
+
+-- the lists that begin with a label below `next`, each before each of the lists
+abbrev pub begun_below : ℕ → List (List ℕ) → List (List ℕ)
+begun_below zero lists = []
+begun_below (suc label) lists = begun_below label lists ++ map (λ labels. label ∷ labels) lists
+
+-- the label lists of n more vertices, where the labels below `next` are in use and new ones are numbered from there on, by
+-- first appearance
+abbrev pub label_lists : ℕ → ℕ → List (List ℕ)
+label_lists zero next = [] ∷ []
+label_lists (suc n) next = begun_below next (label_lists n next) ++ map (λ labels. next ∷ labels) (label_lists n (suc next))
+
+-- whether each vertex shares the block of its group's least vertex, and no forbidden pair shares one
+abbrev pub permits : Closed → (ℕ → ℕ) → Bool
+permits c label =
+    list_all (λ v. label (slice_index c.group v) == label v) (below (length c.group)) && list_all (λ p. not (label p.0 == label p.1)) c.forbidden
+
+-- all permitted partitions of the vertices
+abbrev pub permitted : Closed → List (List ℕ)
+permitted c = filter (λ labels. permits c (slice_index labels)) (label_lists (length c.group) 0)
+
+-- how many there are
+abbrev pub count : Closed → ℕ
+count c = length (permitted c)

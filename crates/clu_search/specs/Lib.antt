@@ -1,0 +1,5 @@
+pub mod Count
+pub mod Incumbent
+pub mod Outcome
+pub mod Search
+pub mod Whole

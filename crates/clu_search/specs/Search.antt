@@ -1,0 +1,63 @@
+-- How far a search is: the branch tree of all vertices, and the best partition so far.
+use Rattle.std.specs.Prelude.{◌≡◌, ℕ, ◌≤◌, ℤ, ◌≤ℤ◌, ◌<ℤ◌, List, None}
+use Rattle.clu_partition.specs.Partition.{below}
+use Rattle.clu_objective.specs.Problem.{IsPosed}
+use Rattle.clu_state.specs.State.{IsState}
+use Rattle.clu_node.specs.declared.bound.NodeBound.{NodeBound}
+use Rattle.clu_node.specs.declared.bound.How.TheVariants.{Closed}
+use Rattle.clu_cert.specs.Fits.{Fits}
+use Rattle.clu_cert.specs.Valid.{IsValid, whole}
+use Rattle.clu_cert.specs.declared.certificate.Certificate.{Certificate}
+use Rattle.clu_tree.specs.Items.{branch_items}
+use Rattle.clu_tree.specs.Nodes.{BoundAt, LeafAt, Shown, items_of}
+use Rattle.clu_search.specs.Incumbent.{IsIncumbent}
+use Rattle.clu_search.specs.Outcome.{StatesItsBound, branchings_of}
+use Rattle.clu_search.specs.declared.search.Search.{Search}
+
+-- the node is closed only where its bound is no more than this value, and it is closed where it has no free pair
+pub record IsSettled (best : ℤ) (node : NodeBound) : Type 0 where
+  pub closed : node.how ≡ Closed → node.bound ≤ℤ best
+  pub paired : node.pair ≡ None → node.how ≡ Closed
+
+abbrev pub AreSettled : ℤ → List Shown → Type 0
+AreSettled best nodes = (key : ℕ) (node : NodeBound) → BoundAt key node nodes → IsSettled best node
+
+-- the rules are for the problem, the tree is that of all its vertices, and its bounds were found beside partitions no better
+-- than the best one
+pub record IsSearch (s : Search) : Type 0 where
+  pub posed : IsPosed s.problem.now
+  pub state : IsState (whole s.problem.now s.start.now)
+  pub vertices : s.vertices ≡ below s.problem.now.pairs.n
+  pub root : s.tree.root ≡ whole s.problem.now s.start.now
+  pub floor : s.tree.floor ≤ℤ s.incumbent.value
+  pub room : s.problem.now.pairs.n ≤ s.scratch.n
+  pub known : IsIncumbent s.problem.now.pairs s.start.now s.incumbent
+  pub settled : AreSettled s.incumbent.value s.tree.nodes
+
+-- both are of one problem and its rules
+pub record SameTask (old new : Search) : Type 0 where
+  pub problem : new.problem.now ≡ old.problem.now
+  pub start : new.start.now ≡ old.start.now
+
+-- how many branchings were made
+abbrev pub made : Search → ℕ
+made s = branch_items (items_of s.tree.nodes)
+
+-- the leaf with this key has a bound above the best value
+pub record IsAbove (s : Search) (key : ℕ) : Type 0 where
+  pub node : NodeBound
+  pub leaf : LeafAt key node s.tree.nodes
+  pub above : s.incumbent.value <ℤ node.bound
+
+-- no leaf has a bound above the best value
+abbrev pub IsDone : Search → Type 0
+IsDone s = (key : ℕ) (node : NodeBound) → LeafAt key node s.tree.nodes → node.bound ≤ℤ s.incumbent.value
+
+-- the certificate of the best partition, with the tree as its proof
+pub record IsCertified (s : Search) (cert : Certificate) : Type 0 where
+  pub valid : IsValid s.problem.now s.start.now cert
+  pub exact : StatesItsBound s.problem.now s.start.now cert
+  pub fits : Fits cert
+  pub labels : cert.labels ≡ s.incumbent.partition
+  pub branchings : branchings_of cert ≡ made s
+  pub optimal : IsDone s → cert.value ≡ cert.bound

@@ -1,0 +1,190 @@
+ghost use Rattle.std.specs.Prelude.{◌≡◌, ◌⊎◌, ◌+◌, ◌≤◌, ◌<◌, ◌^◌, ◌≤ℤ◌, IfOk, OnOk, length};
+ghost use Rattle.clu_partition.specs.Partition.{below};
+ghost use Rattle.clu_state.specs.State.{State, IsState, CanDecide, CanDecideAll, decided};
+ghost use Rattle.clu_cert.specs.Valid.{whole};
+ghost use Rattle.clu_tree.specs.Nodes.{IsFit};
+ghost use Rattle.clu_search.specs.Incumbent.{IsIncumbent};
+ghost use Rattle.clu_search.specs.Search.{IsAbove, IsCertified, IsDone, IsSearch, IsSettled, SameTask, made};
+
+use crate::certify::certify;
+use crate::incumbent::Incumbent;
+use clu_cert::Certificate;
+use clu_node::bound_node;
+use clu_objective::Problem;
+use clu_partition::{Seq, Start, Vertex, all_vertices};
+use clu_rows::Residual;
+use clu_state::{Decision, Rebuilt, Situation};
+use clu_tree::{Fresh, Tree};
+use std::alloc::{AllocError, Global};
+
+/// The state of all vertices after the decisions of a path.
+fn rebuilt<'p>(
+    alloc: Global,
+    problem: &'p Problem,
+    start: &'p Start,
+    vertices: &[Vertex],
+    path: &[Decision],
+) -> Result<Rebuilt<'p>, AllocError>
+    requires valid { IsState (whole problem.now start.now) }
+    requires vertices { vertices.now ≡ below problem.now.pairs.n }
+    requires path { CanDecideAll (whole problem.now start.now) path.now }
+    ensures { IfOk result (λ state. state ≡ record (whole problem.now start.now) { decisions = path.now }) }
+{
+    let mut state = Rebuilt::new(alloc, &problem.pairs, start, vertices)?;
+    for decision in path {
+        state.decide(*decision)?;
+    }
+    Ok(state)
+}
+
+/// Finishes a new node: the groups of its state are tried as the incumbent, and then it is bounded.
+fn fresh<S: Situation>(
+    alloc: Global,
+    state: &S,
+    best: &mut Incumbent,
+    scratch: &mut Residual,
+) -> Result<Fresh, AllocError>
+    requires all { (S.state state.now).members ≡ below (S.state state.now).pairs.n }
+    requires known { IsIncumbent (S.state state.now).pairs (S.state state.now).start best.old }
+    requires room { (S.state state.now).pairs.n ≤ scratch.old.n }
+    ensures known { OnOk result (IsIncumbent (S.state state.now).pairs (S.state state.now).start best.new) }
+    ensures risen { OnOk result (best.old.value ≤ℤ best.new.value) }
+    ensures fit { IfOk result (λ fresh. IsFit (S.state state.now) fresh) }
+    ensures settled { IfOk result (λ fresh. IsSettled best.new.value fresh.bound) }
+    ensures room { scratch.new.n ≡ scratch.old.n }
+{
+    best.try_groups(alloc, state)?;
+    let bound = bound_node(alloc, state, best.value, scratch)?;
+    Ok(Fresh {
+        steps: Seq::new(alloc),
+        bound,
+    })
+}
+
+/// How far a search is.
+#[derive(Drop)]
+pub(crate) struct Search<'p> {
+    problem: &'p Problem,
+    start: &'p Start,
+    vertices: Seq<Vertex>,
+    tree: Tree<'p>,
+    pub(crate) incumbent: Incumbent,
+    scratch: Residual,
+}
+
+impl<'p> Search<'p> {
+    /// The tree is its root, and the better one of the groups of the rules and of the root's state is
+    /// the incumbent.
+    pub(crate) fn new(
+        alloc: Global,
+        problem: &'p Problem,
+        start: &'p Start,
+    ) -> Result<Search<'p>, AllocError>
+        requires { length start.now.group ≡ problem.now.pairs.n }
+        ensures search { IfOk result (λ s. IsSearch s) }
+        ensures problem { IfOk result (λ s. s.problem.now ≡ problem.now) }
+        ensures start { IfOk result (λ s. s.start.now ≡ start.now) }
+        ensures unbranched { IfOk result (λ s. made s ≡ 0) }
+    {
+        let vertices = all_vertices(alloc, problem.pairs.n())?;
+        let mut incumbent = Incumbent::first(alloc, problem, start)?;
+        let mut scratch = Residual::new(alloc, problem.pairs.n())?;
+        let state = rebuilt(alloc, problem, start, vertices.as_slice(), &[])?;
+        let root = fresh(alloc, &state, &mut incumbent, &mut scratch)?;
+        let floor = incumbent.value;
+        let members = vertices.as_slice();
+        let tree = Tree::new(alloc, &problem.pairs, start, floor, members, &[], root)?;
+        Ok(Search {
+            problem,
+            start,
+            vertices,
+            tree,
+            incumbent,
+            scratch,
+        })
+    }
+
+    /// What stands at the node to which a decision leads from the end of a path.
+    fn fresh_after(
+        &mut self,
+        alloc: Global,
+        path: &[Decision],
+        decision: Decision,
+    ) -> Result<Fresh, AllocError>
+        requires search { IsSearch self.old }
+        requires path { IsState (record self.old.tree.root { decisions = path.now }) }
+        requires decision { CanDecide (record self.old.tree.root { decisions = path.now }) decision }
+        ensures search { OnOk result (IsSearch self.new) }
+        ensures task { OnOk result (SameTask self.old self.new) }
+        ensures tree { OnOk result (self.new.tree ≡ self.old.tree) }
+        ensures risen { OnOk result (self.old.incumbent.value ≤ℤ self.new.incumbent.value) }
+        ensures fit { IfOk result (λ fresh.
+            IsFit (decided (record self.old.tree.root { decisions = path.now }) decision) fresh) }
+        ensures settled { IfOk result (λ fresh. IsSettled self.new.incumbent.value fresh.bound) }
+    {
+        let vertices = self.vertices.as_slice();
+        let mut state = rebuilt(alloc, self.problem, self.start, vertices, path)?;
+        state.decide(decision)?;
+        fresh(alloc, &state, &mut self.incumbent, &mut self.scratch)
+    }
+
+    /// Splits a leaf on its pair. The child with the pair together is finished first, so that the
+    /// other one is bounded beside the incumbent that it found.
+    fn branch(&mut self, alloc: Global, key: usize) -> Result<(), AllocError>
+        requires search { IsSearch self.old }
+        requires above { IsAbove self.old key }
+        ensures search { OnOk result (IsSearch self.new) }
+        ensures task { OnOk result (SameTask self.old self.new) }
+        ensures made { OnOk result (made self.new ≡ made self.old + 1) }
+    {
+        let Some(pair) = self.tree.bound_at(key).pair else {
+            unreachable!()
+        };
+        let (u, v) = pair;
+        let path = self.tree.path(alloc, key)?;
+        let together = self.fresh_after(alloc, &path, Decision::Together(u, v))?;
+        let apart = self.fresh_after(alloc, &path, Decision::Apart(u, v))?;
+        self.tree.split(key, u, v, together, apart)?;
+        Ok(())
+    }
+
+    /// Branches as often as is allowed, while a leaf has a bound above the incumbent's value.
+    pub(crate) fn run(&mut self, alloc: Global, allowed: u64) -> Result<(), AllocError>
+        requires search { IsSearch self.old }
+        requires unbranched { made self.old ≡ 0 }
+        ensures search { OnOk result (IsSearch self.new) }
+        ensures task { OnOk result (SameTask self.old self.new) }
+        ensures within { OnOk result (made self.new ≤ allowed) }
+        ensures done { OnOk result ((made self.new ≡ allowed) ⊎ IsDone self.new) }
+    {
+        for _ in 0..allowed {
+            let Some(key) = self.tree.best_leaf(self.incumbent.value) else {
+                return Ok(());
+            };
+            self.branch(alloc, key)?;
+        }
+        Ok(())
+    }
+
+    /// The number of branchings that were made.
+    pub(crate) fn branchings(&self) -> u64
+        ensures { result ≡ made self.now }
+    {
+        self.tree.branchings()
+    }
+
+    /// The certificate of the incumbent, whose bound is the greatest of a leaf of the tree.
+    pub(crate) fn certificate(&self, alloc: Global) -> Result<Certificate, AllocError>
+        requires { IsSearch self.now }
+        ensures { IfOk result (λ cert. IsCertified self.now cert) }
+    {
+        let items = self.tree.preorder(alloc)?;
+        certify(
+            alloc,
+            self.problem,
+            &self.incumbent,
+            items,
+            self.tree.upper(),
+        )
+    }
+}
