@@ -1,6 +1,7 @@
 -- The edits of a partition are its printed number, and so the printed bound is one of edits.
-use Rattle.std.proofs.Common.{◌≡◌, ◌↔◌, ℕ, ℤ, pos, ◌≤ℤ◌, ◌≤◌, ◌^◌, unsigned_abs, List, Bool, true, false, IsTrue, slice_index, refl, ◌∙◌, ap, subst, arith, if◌then◌else◌}
-use Rattle.std.proofs.lemmas.Int.{ints}
+use Rattle.std.proofs.Common.{◌≡◌, ◌↔◌, ℕ, ℤ, pos, ◌≤ℤ◌, List, Bool, true, false, IsTrue, All, slice_index, refl, sym, ◌∙◌, ap, subst, arith, if◌then◌else◌}
+use Rattle.std.proofs.lemmas.List.Elements.{All-nil}
+use Rattle.clu_partition.specs.Closed.{Closed, IsOpen, IsPermitted}
 use Rattle.clu_partition.specs.Pairs.{weight_of}
 use Rattle.clu_partition.specs.Partition.{below, IsPartition}
 use Rattle.clu_partition.specs.Values.{value_on}
@@ -8,13 +9,12 @@ use Rattle.clu_pace.specs.Graph.{PaceGraph}
 use Rattle.clu_objective.specs.Edits.{edits, PosesEdits, PrintsEdits}
 use Rattle.clu_objective.specs.Problem.{Posed, printed, IsBetterOrEqual}
 use Rattle.clu_objective.specs.declared.objective.Objective.{Objective}
+use Rattle.clu_search.specs.declared.outcome.End.{End}
+use Rattle.clu_search.specs.declared.outcome.End.TheVariants.{Optimal, Branchings}
 
 module _ (graph : PaceGraph) (problem : Posed) (poses : PosesEdits graph problem) (prints : PrintsEdits graph problem) where
   pub value_edits : (labels : List ℕ) → printed problem (value_on (weight_of problem.pairs) (slice_index labels) (below problem.pairs.n)) ≡ pos (edits graph labels)
   value_edits labels = ap (λ (n : ℕ). printed problem (value_on (weight_of problem.pairs) (slice_index labels) (below n))) poses.vertices ∙ prints labels
-
-  pub printed_edits : (labels : List ℕ) (v z : ℤ) → v ≡ value_on (weight_of problem.pairs) (slice_index labels) (below problem.pairs.n) → z ≡ printed problem v → z ≡ pos (edits graph labels)
-  printed_edits labels v z is e = e ∙ ap (printed problem) is ∙ value_edits labels
 
   pub none_fewer : (bound : ℤ) → ((labels : List ℕ) → IsBetterOrEqual problem.objective bound (printed problem (value_on (weight_of problem.pairs) (slice_index labels) (below problem.pairs.n)))) →
       (others : List ℕ) → IsPartition graph.n others → bound ≤ℤ pos (edits graph others)
@@ -29,6 +29,19 @@ zero_where false P h = ((λ e. absurd (omega (arith, e))), (λ p. absurd (none (
     none : IsTrue false → ⊥
     none e = cc
 
--- a value within a total of that size can be printed
-pub within_total : (v total : ℤ) → pos (unsigned_abs v) ≤ℤ total → total ≤ℤ pos (2 ^ 88) → unsigned_abs v ≤ 2 ^ 88
-within_total v total within small = omega (arith, ints, within, small)
+-- status 1 comes only where the test doesn't hold
+pub one_where : (b : Bool) (P : Type 0) → IsTrue b ↔ P → (◌≡◌ {A = ℕ} (if b then 0 else 1) 1) → P → ⊥
+one_where true P h e p = absurd (omega (arith, e))
+one_where false P h e p = let q : IsTrue false = h.1 p in cc
+
+-- a search that doesn't end optimal has made all branchings
+pub all_made : (end : End) (P : Type 0) (made limit : ℕ) → (end ≡ Optimal) ↔ P → (end ≡ Branchings) ↔ ((P → ⊥) × (made ≡ limit)) → (P → ⊥) → made ≡ limit
+all_made Optimal P made limit o b gap = absurd (gap (o.0 refl))
+all_made Branchings P made limit o b gap = (b.0 refl).1
+
+-- rules that bind nothing permit each partition
+pub all_permitted : (n : ℕ) (start : Closed) → IsOpen n start → (label : ℕ → ℕ) → IsPermitted start label
+all_permitted n start free label = record {
+  required = λ v at. let size = free.size in ap label (free.alone v (omega (arith, at, size)));
+  forbidden = subst (All (λ p. label p.0 ≡ label p.1 → ⊥)) (sym free.none_forbidden) (All-nil (λ p. label p.0 ≡ label p.1 → ⊥));
+}

@@ -1,15 +1,19 @@
 -- The command and the files decide the status: each cause excludes the others.
 use Rattle.std.proofs.Common.{◌≡◌, ℕ, ◌≤◌, ◌<◌, List, length, refl, sym, ◌∙◌, subst, arith, inl, inr, Option, Some, None, Bool, true, false, Ok, Err}
-use Rattle.std.specs.Prelude.{Result, IfSome, IsSomeAnd, String}
+use Rattle.std.specs.Prelude.{Result, IfSome, IsSomeAnd, String, if◌then◌else◌}
 use Rattle.std.specs.Global.{Global}
 use Rattle.clu_outside.specs.Folder.{Told, Holds, HoldsMore, Lacks}
+use Rattle.clu_partition.specs.Closed.{Closed, IsOpen}
+use Rattle.clu_partition.proofs.ClosedLaws.{one_open}
 use Rattle.clu_pace.specs.Graph.{PaceGraph}
 use Rattle.clu_pace.specs.Pace.{IsAccepted}
 use Rattle.clu_pace.proofs.Whole.{one_graph}
 use Rattle.clu_cert.specs.Fits.{Fits}
 use Rattle.clu_cert.specs.Text.{text}
 use Rattle.clu_cert.specs.declared.certificate.Certificate.{Certificate}
-use Rattle.clu_cli.specs.Headline.{Certifies, Ends, IsAbsent, IsCutShort, IsDecided, IsGraph, IsLoaded, IsProven, IsRefused, IsSolvable, IsTooLong, IsTurnedDown, Prints, Reports, max_bytes}
+use Rattle.clu_search.specs.Count.{count}
+use Rattle.clu_search.specs.Outcome.{branchings_of}
+use Rattle.clu_cli.specs.Headline.{Certifies, Ends, IsAbsent, IsAnswer, IsCompletable, IsCutShort, IsDecided, IsGraph, IsLoaded, IsProven, IsRefused, IsSolvable, IsTooLong, IsTurnedDown, Prints, Reports, max_bytes}
 use Rattle.clu_cli.specs.Status.{end_status}
 use Rattle.clu_cli.specs.Words.{Asked, Command, solve, check, graph_file}
 use Rattle.clu_cli.specs.declared.stop.Stop.{Stop}
@@ -30,15 +34,15 @@ held_or_lacks : (held : Option (List ℕ)) (bytes : List ℕ) → held ≡ Some 
 held_or_lacks held bytes is none = let e : None ≡ Some bytes = sym none ∙ is in cc
 
 -- which command a report cut short is of
-no_check : (file name other certificate : List ℕ) → check file name ≡ solve other (Some certificate) → ⊥
-no_check file name other certificate e = cc
+no_check : (file name other certificate : List ℕ) (limit : ℕ) → check file name ≡ solve other (Some certificate) limit → ⊥
+no_check file name other certificate limit e = cc
 
-same_file : (file other : List ℕ) (certificate given : Option (List ℕ)) → solve file certificate ≡ solve other given → other ≡ file
-same_file file other certificate given e = cc
+same_file : (file other : List ℕ) (certificate given : Option (List ℕ)) (limit most : ℕ) → solve file certificate limit ≡ solve other given most → other ≡ file
+same_file file other certificate given limit most e = cc
 
 -- the graph is one, and the certificate's file is there
 abbrev IsReady : Told → Command → Type 0
-IsReady t (solve file certificate) = (graph : PaceGraph) × IsGraph file (Some t) graph
+IsReady t (solve file certificate limit) = (graph : PaceGraph) × IsGraph file (Some t) graph
 IsReady t (check file name) = (graph : PaceGraph) × IsGraph file (Some t) graph × (bytes : List ℕ) × Holds (Some t) name bytes
 
 module _ (t : Told) where
@@ -59,11 +63,11 @@ module _ (t : Told) where
 
   -- ---- of all files
   graph_of : (command : Command) → IsReady t command → (graph : PaceGraph) × IsGraph (graph_file command) (Some t) graph
-  graph_of (solve file certificate) r = r
+  graph_of (solve file certificate limit) r = r
   graph_of (check file name) r = (r.0, r.1)
 
   ready_or_absent : (command : Command) → IsReady t command → IsAbsent command (Some t) → ⊥
-  ready_or_absent (solve file certificate) r a = graph_or_lacks file r.0 r.1 a
+  ready_or_absent (solve file certificate limit) r a = graph_or_lacks file r.0 r.1 a
   ready_or_absent (check file name) r (inl a) = graph_or_lacks file r.0 r.1 a
   ready_or_absent (check file name) r (inr a) = held_or_lacks (t.held name) r.2 r.3 a.2
 
@@ -74,12 +78,12 @@ module _ (t : Told) where
   ready_or_refused command r a = let g = graph_of command r in graph_or_refused command g.0 g.1 a
 
   absent_or_longer : (command : Command) → IsAbsent command (Some t) → IsTooLong command (Some t) → ⊥
-  absent_or_longer (solve file certificate) a b = not_none (t.held file) (λ bs. max_bytes < length bs) a b
+  absent_or_longer (solve file certificate limit) a b = not_none (t.held file) (λ bs. max_bytes < length bs) a b
   absent_or_longer (check file name) (inl a) b = not_none (t.held file) (λ bs. max_bytes < length bs) a b
   absent_or_longer (check file name) (inr a) b = loaded_or_longer file a.1.bytes a.1.loaded b
 
   absent_or_refused : (command : Command) → IsAbsent command (Some t) → IsRefused command (Some t) → ⊥
-  absent_or_refused (solve file certificate) a r = held_or_lacks (t.held file) r.bytes r.loaded.held a
+  absent_or_refused (solve file certificate limit) a r = held_or_lacks (t.held file) r.bytes r.loaded.held a
   absent_or_refused (check file name) (inl a) r = held_or_lacks (t.held file) r.bytes r.loaded.held a
   absent_or_refused (check file name) (inr a) r = graph_or_refused (check file name) a.0 a.1 r
 
@@ -87,33 +91,40 @@ module _ (t : Told) where
   longer_or_refused command a r = loaded_or_longer (graph_file command) r.bytes r.loaded a
 
   solvable_or_turned_down : (command : Command) → IsSolvable command (Some t) → IsTurnedDown command (Some t) → ⊥
-  solvable_or_turned_down (solve file certificate) s h = absurd h
+  solvable_or_turned_down (solve file certificate limit) s h = absurd h
   solvable_or_turned_down (check file name) s h = absurd s
 
   -- ---- who is ready
   turned_down_ready : (command : Command) → IsTurnedDown command (Some t) → IsReady t command
-  turned_down_ready (solve file certificate) h = absurd h
+  turned_down_ready (solve file certificate limit) h = absurd h
   turned_down_ready (check file name) h = (h.0, h.1, h.2, h.3)
 
   proven_ready : (command : Command) → IsProven command (Some t) → IsReady t command
-  proven_ready (solve file certificate) h = absurd h
+  proven_ready (solve file certificate limit) h = absurd h
   proven_ready (check file name) h = (h.0, h.1, text h.2, h.4)
 
   solvable_ready : (command : Command) → IsSolvable command (Some t) → IsReady t command
-  solvable_ready (solve file certificate) h = h
+  solvable_ready (solve file certificate limit) h = h
   solvable_ready (check file name) h = absurd h
 
   reports_ready : (command : Command) (after : Option Told) (printed : List ℕ) (status : ℕ) → Reports command (Some t) after printed status → IsReady t command
-  reports_ready (solve file certificate) after printed status h =
+  reports_ready (solve file certificate limit) after printed status h =
       (h.answer.graph, record { bytes = h.bytes; loaded = h.loaded; accepted = h.answer.accepted })
   reports_ready (check file name) after printed status h =
       (h.graph, record { bytes = h.bytes; loaded = h.loaded; accepted = h.read }, h.certificate, h.held)
 
   cut_short_ready : (command : Command) (after : Option Told) (old new : Option (List ℕ)) → IsCutShort command (Some t) after old new → IsReady t command
-  cut_short_ready (solve file certificate) after old new (inl h) =
-      (h.answer.graph, record { bytes = h.bytes; loaded = subst (λ (name : List ℕ). IsLoaded name (Some t) h.bytes) (same_file file h.file certificate (Some h.name) h.command_is) h.loaded; accepted = h.answer.accepted })
-  cut_short_ready (check file name) after old new (inl h) = absurd (no_check file name h.file h.name h.command_is)
+  cut_short_ready (solve file certificate limit) after old new (inl h) =
+      (h.answer.graph, record { bytes = h.bytes; loaded = subst (λ (name : List ℕ). IsLoaded name (Some t) h.bytes) (same_file file h.file certificate (Some h.name) limit h.limit h.command_is) h.loaded; accepted = h.answer.accepted })
+  cut_short_ready (check file name) after old new (inl h) = absurd (no_check file name h.file h.name h.limit h.command_is)
   cut_short_ready command after old new (inr h) = reports_ready command after h.printed h.status h.reports
+
+  completable_solvable : (command : Command) → IsCompletable command (Some t) → IsSolvable command (Some t)
+  completable_solvable (solve file certificate limit) h = (h.0, h.1)
+  completable_solvable (check file name) h = absurd h
+
+  completable_ready : (command : Command) → IsCompletable command (Some t) → IsReady t command
+  completable_ready command h = solvable_ready command (completable_solvable command h)
 
   -- ---- valid or not
   certified_or_not : (file name : List ℕ) (graph : PaceGraph) (cert : Certificate) → IsGraph file (Some t) graph → Fits cert → Holds (Some t) name (text cert)
@@ -123,37 +134,63 @@ module _ (t : Told) where
       (subst (λ (one : PaceGraph). Certifies one cert) (same_graph file h.0 graph h.1 g) valid)
 
   proven_or_turned_down : (command : Command) → IsProven command (Some t) → IsTurnedDown command (Some t) → ⊥
-  proven_or_turned_down (solve file certificate) p h = absurd h
+  proven_or_turned_down (solve file certificate limit) p h = absurd h
   proven_or_turned_down (check file name) p h = certified_or_not file name p.0 p.2 p.1 p.3 p.4 p.5 h
 
   reports_or_turned_down : (command : Command) (after : Option Told) (printed : List ℕ) (status : ℕ) → Reports command (Some t) after printed status
       → IsTurnedDown command (Some t) → ⊥
-  reports_or_turned_down (solve file certificate) after printed status r h = absurd h
+  reports_or_turned_down (solve file certificate limit) after printed status r h = absurd h
   reports_or_turned_down (check file name) after printed status r h =
       certified_or_not file name r.graph r.proof.cert (record { bytes = r.bytes; loaded = r.loaded; accepted = r.read }) r.proof.fits
       (subst (λ (bs : List ℕ). t.held name ≡ Some bs) r.proof.read r.held) r.proof.certifies h
 
   cut_short_or_turned_down : (command : Command) (after : Option Told) (old new : Option (List ℕ)) → IsCutShort command (Some t) after old new
       → IsTurnedDown command (Some t) → ⊥
-  cut_short_or_turned_down (solve file certificate) after old new r h = absurd h
-  cut_short_or_turned_down (check file name) after old new (inl r) h = absurd (no_check file name r.file r.name r.command_is)
+  cut_short_or_turned_down (solve file certificate limit) after old new r h = absurd h
+  cut_short_or_turned_down (check file name) after old new (inl r) h = absurd (no_check file name r.file r.name r.limit r.command_is)
   cut_short_or_turned_down (check file name) after old new (inr r) h = reports_or_turned_down (check file name) after r.printed r.status r.reports h
 
   accepted_of : (command : Command) (after : Option Told) (printed : List ℕ) (status : ℕ) → Reports command (Some t) after printed status
       → IsProven command (Some t) → status ≡ 0
-  accepted_of (solve file certificate) after printed status r p = absurd p
+  accepted_of (solve file certificate limit) after printed status r p = absurd p
   accepted_of (check file name) after printed status r p = r.accepted
+
+  -- ---- optimal or not
+  -- a search that made all allowed branchings made fewer than there are partitions
+  spent : (bytes printed : List ℕ) (cert : Certificate) (limit : ℕ) (answer : IsAnswer bytes printed cert limit 1) (start : Closed)
+      → IsOpen answer.graph.n start → count start ≤ limit → ⊥
+  spent bytes printed cert limit answer start unbound room =
+      let less = subst (λ (c : Closed). branchings_of cert < count c) (one_open answer.graph.n answer.searched.start start answer.searched.unbound unbound) answer.searched.counted in
+      let made = answer.gap refl in
+      let stated = answer.stated_branchings in
+      omega (arith, less, made, stated, room)
+
+  gap_or_completed : (command : Command) (after : Option Told) (printed : List ℕ) → Reports command (Some t) after printed 1
+      → IsCompletable command (Some t) → ⊥
+  gap_or_completed (solve file certificate limit) after printed r h =
+      let here : IsGraph file (Some t) r.answer.graph = record { bytes = r.bytes; loaded = r.loaded; accepted = r.answer.accepted } in
+      spent r.bytes printed r.cert limit r.answer h.2
+      (subst (λ (one : PaceGraph). IsOpen one.n h.2) (same_graph file r.answer.graph h.0 here h.1) h.3) h.4
+  gap_or_completed (check file name) after printed r h = absurd h
+
+  completed_of : (command : Command) (after : Option Told) (printed : List ℕ) (optimal : Bool)
+      → Reports command (Some t) after printed (if optimal then 0 else 1) → IsCompletable command (Some t)
+      → ◌≡◌ {A = ℕ} (if optimal then 0 else 1) 0
+  completed_of command after printed true r h = refl
+  completed_of command after printed false r h = absurd (gap_or_completed command after printed r h)
 
   -- ---- the status
   module _ (command : Command) (after : Option Told) (old new : Option (List ℕ)) where
-    printed_decided : (status : ℕ) → status ≤ 1 → Prints command (Some t) after old new status → IsDecided command (Some t) status
-    printed_decided status low h = let ready = reports_ready command after h.printed status h.reports in record {
+    printed_decided : (optimal : Bool) → (if optimal then 0 else 1) ≤ 1 → Prints command (Some t) after old new (if optimal then 0 else 1)
+        → IsDecided command (Some t) (if optimal then 0 else 1)
+    printed_decided optimal low h = let status = if optimal then 0 else 1 in let ready = reports_ready command after h.printed status h.reports in record {
       absent = λ a. absurd (ready_or_absent command ready a);
       too_long = λ a. absurd (ready_or_longer command ready a);
       refused = λ a. absurd (ready_or_refused command ready a);
       turned_down = λ a. absurd (reports_or_turned_down command after h.printed status h.reports a);
       proven = λ p. inl (accepted_of command after h.printed status h.reports p);
       solvable = λ _. inl low;
+      completed = λ g. inl (completed_of command after h.printed optimal h.reports g);
     }
 
     turned_down_decided : IsTurnedDown command (Some t) → IsDecided command (Some t) 3
@@ -164,6 +201,7 @@ module _ (t : Told) where
       turned_down = λ _. inl refl;
       proven = λ p. absurd (proven_or_turned_down command p h);
       solvable = λ s. absurd (solvable_or_turned_down command s h);
+      completed = λ g. absurd (solvable_or_turned_down command (completable_solvable command g) h);
     }
 
     refused_decided : IsRefused command (Some t) → IsDecided command (Some t) 4
@@ -174,6 +212,7 @@ module _ (t : Told) where
       turned_down = λ a. absurd (ready_or_refused command (turned_down_ready command a) h);
       proven = λ p. absurd (ready_or_refused command (proven_ready command p) h);
       solvable = λ s. absurd (ready_or_refused command (solvable_ready command s) h);
+      completed = λ g. absurd (ready_or_refused command (completable_ready command g) h);
     }
 
     read_fault_decided : IsDecided command (Some t) 7
@@ -184,6 +223,7 @@ module _ (t : Told) where
       turned_down = λ _. inr (inl refl);
       proven = λ _. inr (inl refl);
       solvable = λ _. inr (inl refl);
+      completed = λ _. inr (inl refl);
     }
 
     write_fault_decided : IsCutShort command (Some t) after old new → IsDecided command (Some t) 8
@@ -194,6 +234,7 @@ module _ (t : Told) where
       turned_down = λ a. absurd (cut_short_or_turned_down command after old new h a);
       proven = λ _. inr (inr (inl refl));
       solvable = λ _. inr (inr (inl refl));
+      completed = λ _. inr (inr (inl refl));
     }
 
     memory_decided : IsDecided command (Some t) 9
@@ -204,6 +245,7 @@ module _ (t : Told) where
       turned_down = λ _. inr (inr refl);
       proven = λ _. inr (inr (inr refl));
       solvable = λ _. inr (inr (inr refl));
+      completed = λ _. inr (inr (inr refl));
     }
 
     too_long_decided : IsTooLong command (Some t) → IsDecided command (Some t) 10
@@ -214,6 +256,7 @@ module _ (t : Told) where
       turned_down = λ a. absurd (ready_or_longer command (turned_down_ready command a) h);
       proven = λ p. absurd (ready_or_longer command (proven_ready command p) h);
       solvable = λ s. absurd (ready_or_longer command (solvable_ready command s) h);
+      completed = λ g. absurd (ready_or_longer command (completable_ready command g) h);
     }
 
     absent_decided : IsAbsent command (Some t) → IsDecided command (Some t) 11
@@ -224,11 +267,12 @@ module _ (t : Told) where
       turned_down = λ a. absurd (ready_or_absent command (turned_down_ready command a) h);
       proven = λ p. absurd (ready_or_absent command (proven_ready command p) h);
       solvable = λ s. absurd (ready_or_absent command (solvable_ready command s) h);
+      completed = λ g. absurd (ready_or_absent command (completable_ready command g) h);
     }
 
     decided_of : (end : Result Bool Stop) → Ends command (Some t) after old new end → IsDecided command (Some t) (end_status end)
-    decided_of (Ok true) h = printed_decided 0 (omega arith) h
-    decided_of (Ok false) h = printed_decided 1 (omega arith) h
+    decided_of (Ok true) h = printed_decided true (omega arith) h
+    decided_of (Ok false) h = printed_decided false (omega arith) h
     decided_of (Err (BadText line)) h = turned_down_decided h.0
     decided_of (Err (Rejected reject)) h = turned_down_decided h.0
     decided_of (Err Refused) h = refused_decided h.0

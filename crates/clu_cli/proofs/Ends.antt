@@ -69,7 +69,7 @@ ends_unloaded command before after old new ReadFault h is same = untouched_once 
 ends_unloaded command before after old new WriteFault h is same = absurd h
 ends_unloaded command before after old new Memory h is same = inl (untouched_once before after old new is same)
 ends_unloaded command before after old new TooLong h is same = (h.1, untouched_once before after old new is same)
-ends_unloaded (solve file certificate) before after old new NoFile h is same = (h, untouched_once before after old new is same)
+ends_unloaded (solve file certificate limit) before after old new NoFile h is same = (h, untouched_once before after old new is same)
 ends_unloaded (check file name) before after old new NoFile h is same = (inl h, untouched_once before after old new is same)
 
 module _ (command : Command) (before after : Option Told) (old new : Option (List ℕ)) (bytes : List ℕ)
@@ -107,11 +107,11 @@ pub ends_printed : (command : Command) (before after : Option Told) (old new : O
 ends_printed command before after old new printed optimal reports written = record { printed = printed; reports = reports; written = written }
 
 -- ---- the certificate of `solve`
-module _ (file : List ℕ) (before mid after : Option Told) (bytes read printed : List ℕ) (cert : Certificate) (status : ℕ)
+module _ (file : List ℕ) (before mid after : Option Told) (bytes read printed : List ℕ) (cert : Certificate) (limit status : ℕ)
     (held : Holds before file bytes) (small : length bytes ≤ max_bytes) (is : mid ≡ one_call_later before) (are : read ≡ bytes)
-    (answer : IsAnswer read printed cert status) where
-  answer_here : IsAnswer bytes printed cert status
-  answer_here = subst (λ (bs : List ℕ). IsAnswer bs printed cert status) are answer
+    (answer : IsAnswer read printed cert limit status) where
+  answer_here : IsAnswer bytes printed cert limit status
+  answer_here = subst (λ (bs : List ℕ). IsAnswer bs printed cert limit status) are answer
 
   within_here : (most : ℕ) → CallsWithin most mid after → CallsWithin (1 + most) before after
   within_here most h = within_from before after most (subst (λ (t : Option Told). CallsWithin most t after) is h)
@@ -121,7 +121,7 @@ module _ (file : List ℕ) (before mid after : Option Told) (bytes read printed 
   stores_here (Some name) h =
       (stored_from before after name (text cert) (subst (λ (t : Option Told). IsStored t after name (text cert)) is h.0), within_here _ h.1)
 
-  pub solve_reports : (certificate : Option (List ℕ)) → IsKept certificate mid after cert → Reports (solve file certificate) before after printed status
+  pub solve_reports : (certificate : Option (List ℕ)) → IsKept certificate mid after cert → Reports (solve file certificate limit) before after printed status
   solve_reports certificate h = record {
     bytes = bytes;
     loaded = record { held = held; small = small };
@@ -135,10 +135,11 @@ module _ (file : List ℕ) (before mid after : Option Told) (bytes read printed 
     unbegun command stop e kept = subst (λ (s : Stop). Ends command before after old new (Err s)) (sym e) (inl (untouched_once before after old new (kept ∙ is) same))
 
     partly : (name : List ℕ) → IsStoredPartly mid after name (text cert) → CallsWithin (stores_of (length (text cert))) mid after
-        → StoresPartly (solve file (Some name)) before after old new
+        → StoresPartly (solve file (Some name) limit) before after old new
     partly name h few = record {
       file = file;
       name = name;
+      limit = limit;
       command_is = refl;
       bytes = bytes;
       loaded = record { held = held; small = small };
@@ -151,8 +152,8 @@ module _ (file : List ℕ) (before mid after : Option Told) (bytes read printed 
       unwritten = same;
     }
 
-    cut : (name : List ℕ) (stop : Stop) → StopsWrite stop → StoresPartly (solve file (Some name)) before after old new
-        → Ends (solve file (Some name)) before after old new (Err stop)
+    cut : (name : List ℕ) (stop : Stop) → StopsWrite stop → StoresPartly (solve file (Some name) limit) before after old new
+        → Ends (solve file (Some name) limit) before after old new (Err stop)
     cut name (BadText line) h part = absurd h
     cut name (Rejected reject) h part = absurd h
     cut name Refused h part = absurd h
@@ -164,10 +165,10 @@ module _ (file : List ℕ) (before mid after : Option Told) (bytes read printed 
     cut name NoFile h part = absurd h
 
     pub ends_unkept : (certificate : Option (List ℕ)) (stop : Stop) → StopsKeeping certificate mid after cert stop
-        → Ends (solve file certificate) before after old new (Err stop)
-    ends_unkept None stop (inl h) = unbegun (solve file None) stop h.0 h.1
+        → Ends (solve file certificate limit) before after old new (Err stop)
+    ends_unkept None stop (inl h) = unbegun (solve file None limit) stop h.0 h.1
     ends_unkept None stop (inr h) = absurd h.1
-    ends_unkept (Some name) stop (inl h) = unbegun (solve file (Some name)) stop h.0 h.1
+    ends_unkept (Some name) stop (inl h) = unbegun (solve file (Some name) limit) stop h.0 h.1
     ends_unkept (Some name) stop (inr h) = cut name stop h.0 (partly name h.1.0 h.1.1)
 
 -- ---- the certificate of `check`

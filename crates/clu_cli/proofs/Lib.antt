@@ -1,13 +1,8 @@
 pub mod Answered
 pub mod Asked
-pub mod Certified
 pub mod Checking
 pub mod Decided
 pub mod Ends
-pub mod FirstTwin
 pub mod Keeping
 pub mod Lines
-pub mod PackedBound
 pub mod Printing
-pub mod Prints
-pub mod WholeState

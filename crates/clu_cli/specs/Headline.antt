@@ -1,5 +1,5 @@
 -- What a run promises: the headline, and the cause of each status.
-use Rattle.std.specs.Prelude.{◌≡◌, ◌⊎◌, ◌↔◌, ℕ, zero, suc, pos, ◌+◌, ◌≤◌, ◌≤ℤ◌, List, length, Bool, Option, Some, None, Result, Ok, Err, if◌then◌else◌}
+use Rattle.std.specs.Prelude.{◌≡◌, ◌⊎◌, ◌↔◌, ℕ, zero, suc, pos, ◌+◌, ◌≤◌, ◌<◌, ◌≤ℤ◌, List, length, Bool, Option, Some, None, Result, Ok, Err, if◌then◌else◌}
 use Rattle.clu_outside.specs.Folder.{Told, one_call_later, Holds, HoldsMore, Lacks, IsStored, IsStoredPartly, CallsWithin, stores_of}
 use Rattle.clu_outside.specs.Sink.{TakesSome, with_bytes}
 use Rattle.clu_partition.specs.Closed.{Closed, IsOpen}
@@ -13,11 +13,11 @@ use Rattle.clu_cert.specs.Fits.{Fits}
 use Rattle.clu_cert.specs.Text.{text}
 use Rattle.clu_cert.specs.Valid.{IsValid}
 use Rattle.clu_cert.specs.declared.certificate.Certificate.{Certificate}
+use Rattle.clu_search.specs.Count.{count}
+use Rattle.clu_search.specs.Outcome.{StatesItsBound, branchings_of}
 use Rattle.clu_cli.specs.declared.report.Facts.{Facts}
 use Rattle.clu_cli.specs.declared.stop.Stop.{Stop}
 use Rattle.clu_cli.specs.declared.stop.Stop.TheVariants.{Refused, BadText, Rejected, Words, ReadFault, WriteFault, Memory, TooLong, NoFile}
-use Rattle.clu_cli.specs.CriticalCliques.{AreCriticalCliques}
-use Rattle.clu_cli.specs.PackingBound.{IsPackingBound}
 use Rattle.clu_cli.specs.Report.{report, check_report}
 use Rattle.clu_cli.specs.Words.{Command, solve, check, graph_file}
 
@@ -30,33 +30,43 @@ pub record Certifies (graph : PaceGraph) (cert : Certificate) : Type 0 where
   pub unbound : IsOpen graph.n start
   pub valid : IsValid problem start cert
 
--- What is printed for the bytes of a graph file. They are a text of one graph alone. The report is that of a partition whose
--- blocks hold each vertex exactly once, and are the critical cliques. The printed value is exactly its number of edits.
--- No partition has fewer edits than the printed bound, which is that of a maximal packing of triangles in the state
--- without decisions. The certificate has these blocks, this value and this bound, and is valid. The status is 0 exactly
--- where value and bound are equal.
-pub record IsAnswer (bytes printed : List ℕ) (cert : Certificate) (status : ℕ) : Type 0 where
+-- What a search without rules leaves: the certificate is valid for the problem of the graph, its bound is exactly what its items
+-- prove, and it has fewer branches than the graph's vertices have partitions.
+pub record IsSearched (graph : PaceGraph) (cert : Certificate) : Type 0 where
+  pub problem : Posed
+  pub poses : PosesEdits graph problem
+  pub start : Closed
+  pub unbound : IsOpen graph.n start
+  pub valid : IsValid problem start cert
+  pub exact : StatesItsBound problem start cert
+  pub counted : branchings_of cert < count start
+
+-- What is printed for the bytes of a graph file, where so many branchings are allowed. They are a text of one graph alone. The
+-- report is that of a partition whose blocks hold each vertex exactly once. The printed value is exactly its number of edits,
+-- and no partition has fewer edits than the printed bound. The status is 0 exactly where value and bound are equal, and 1 only
+-- where all allowed branchings were made. The certificate has these blocks, this value, this bound and as many branches as the
+-- printed branchings; it is valid, and its bound is exactly what it proves. There are fewer branchings than partitions.
+pub record IsAnswer (bytes printed : List ℕ) (cert : Certificate) (limit status : ℕ) : Type 0 where
   pub graph : PaceGraph
   pub accepted : IsAccepted bytes graph
   pub only : (other : PaceGraph) → IsAccepted bytes other → other ≡ graph
   pub labels : List ℕ
   pub partition : IsPartition graph.n labels
   pub each_once : EachOnce graph.n (blocks_of labels)
-  pub cliques : AreCriticalCliques graph labels
   pub facts : Facts
   pub vertices : facts.vertices ≡ graph.n
   pub value : facts.value ≡ pos (edits graph labels)
   pub none_better : (others : List ℕ) → IsPartition graph.n others → facts.bound ≤ℤ pos (edits graph others)
-  pub problem : Posed
-  pub poses : PosesEdits graph problem
-  pub bound : IsPackingBound problem facts.bound
   pub text : printed ≡ report facts (graph_names graph) labels
   pub optimal : (status ≡ 0) ↔ (facts.value ≡ facts.bound)
+  pub gap : status ≡ 1 → facts.branchings ≡ limit
+  pub within : facts.branchings ≤ limit
   pub fits : Fits cert
-  pub certifies : Certifies graph cert
+  pub searched : IsSearched graph cert
   pub stated_blocks : cert.labels ≡ labels
   pub stated_value : cert.value ≡ facts.value
   pub stated_bound : cert.bound ≡ facts.bound
+  pub stated_branchings : branchings_of cert ≡ facts.branchings
 
 -- What is printed for an accepted certificate of a graph. The bytes are the text of one certificate alone, and it is valid. Its
 -- labels are those of a partition, and its value is exactly their number of edits. No partition has fewer edits than its bound.
@@ -106,11 +116,12 @@ Stores (Some name) before after cert =
 
 -- ---- how a command ends
 -- the report of `solve`, at a time at which the certificate is stored
-pub record SolveReports (file : List ℕ) (certificate : Option (List ℕ)) (before after : Option Told) (printed : List ℕ) (status : ℕ) : Type 0 where
+pub record SolveReports (file : List ℕ) (certificate : Option (List ℕ)) (limit : ℕ) (before after : Option Told) (printed : List ℕ) (status : ℕ)
+    : Type 0 where
   pub bytes : List ℕ
   pub loaded : IsLoaded file before bytes
   pub cert : Certificate
-  pub answer : IsAnswer bytes printed cert status
+  pub answer : IsAnswer bytes printed cert limit status
   pub stored : Stores certificate before after cert
 
 -- the report of `check`
@@ -127,7 +138,7 @@ pub record CheckReports (file name : List ℕ) (before after : Option Told) (pri
   pub kept : KeepsFiles 2 before after
 
 abbrev pub Reports : Command → Option Told → Option Told → List ℕ → ℕ → Type 0
-Reports (solve file certificate) before after printed status = SolveReports file certificate before after printed status
+Reports (solve file certificate limit) before after printed status = SolveReports file certificate limit before after printed status
 Reports (check file name) before after printed status = CheckReports file name before after printed status
 
 -- status 0 or 1: the sink, where it tells, has taken the command's report, and nothing else
@@ -147,13 +158,14 @@ pub record WritesPartly (command : Command) (before after : Option Told) (old ne
 pub record StoresPartly (command : Command) (before after : Option Told) (old new : Option (List ℕ)) : Type 0 where
   pub file : List ℕ
   pub name : List ℕ
-  pub command_is : command ≡ solve file (Some name)
+  pub limit : ℕ
+  pub command_is : command ≡ solve file (Some name) limit
   pub bytes : List ℕ
   pub loaded : IsLoaded file before bytes
   pub printed : List ℕ
   pub status : ℕ
   pub cert : Certificate
-  pub answer : IsAnswer bytes printed cert status
+  pub answer : IsAnswer bytes printed cert limit status
   pub stored : IsStoredPartly before after name (text cert)
   pub few : CallsWithin (1 + stores_of (length (text cert))) before after
   pub unwritten : new ≡ old
@@ -170,7 +182,7 @@ pub record Untouched (before after : Option Told) (old new : Option (List ℕ)) 
 
 -- status 3: the graph is one, and the other file is the text of no certificate that is valid for it
 abbrev pub IsTurnedDown : Command → Option Told → Type 0
-IsTurnedDown (solve file certificate) told = ⊥
+IsTurnedDown (solve file certificate limit) told = ⊥
 IsTurnedDown (check file name) told = (graph : PaceGraph) × IsGraph file told graph × (bytes : List ℕ) × Holds told name bytes
     × ((cert : Certificate) → Fits cert → bytes ≡ text cert → Certifies graph cert → ⊥)
 
@@ -186,7 +198,7 @@ IsTooLong command told = HoldsMore told (graph_file command) max_bytes
 
 -- status 11: the folder lacks the graph's file, or the graph is one and the folder lacks the certificate's
 abbrev pub IsAbsent : Command → Option Told → Type 0
-IsAbsent (solve file certificate) told = Lacks told file
+IsAbsent (solve file certificate limit) told = Lacks told file
 IsAbsent (check file name) told = Lacks told file ⊎ ((graph : PaceGraph) × IsGraph file told graph × Lacks told name)
 
 -- how a command ends, by the cause
@@ -205,16 +217,22 @@ Ends command before after old new (Err NoFile) = IsAbsent command before × Unto
 -- ---- which status comes
 -- the two files are a graph and the text of a certificate that is valid for it
 abbrev pub IsProven : Command → Option Told → Type 0
-IsProven (solve file certificate) told = ⊥
+IsProven (solve file certificate limit) told = ⊥
 IsProven (check file name) told = (graph : PaceGraph) × IsGraph file told graph × (cert : Certificate) × Fits cert × Holds told name (text cert) × Certifies graph cert
 
 -- the graph of `solve` is one
 abbrev pub IsSolvable : Command → Option Told → Type 0
-IsSolvable (solve file certificate) told = (graph : PaceGraph) × IsGraph file told graph
+IsSolvable (solve file certificate limit) told = (graph : PaceGraph) × IsGraph file told graph
 IsSolvable (check file name) told = ⊥
 
+-- the graph of `solve` is one, and as many branchings are allowed as its vertices have partitions
+abbrev pub IsCompletable : Command → Option Told → Type 0
+IsCompletable (solve file certificate limit) told =
+    (graph : PaceGraph) × IsGraph file told graph × (start : Closed) × IsOpen graph.n start × (count start ≤ limit)
+IsCompletable (check file name) told = ⊥
+
 -- The command and the files decide the status, but where a read fault (7), a write fault (8) or want of memory (9) comes
--- before it.
+-- before it. A graph is solved, and to the end where as many branchings are allowed as its vertices have partitions.
 pub record IsDecided (command : Command) (told : Option Told) (status : ℕ) : Type 0 where
   pub absent : IsAbsent command told → (status ≡ 11) ⊎ (status ≡ 7) ⊎ (status ≡ 9)
   pub too_long : IsTooLong command told → (status ≡ 10) ⊎ (status ≡ 7) ⊎ (status ≡ 9)
@@ -222,3 +240,4 @@ pub record IsDecided (command : Command) (told : Option Told) (status : ℕ) : T
   pub turned_down : IsTurnedDown command told → (status ≡ 3) ⊎ (status ≡ 7) ⊎ (status ≡ 9)
   pub proven : IsProven command told → (status ≡ 0) ⊎ (status ≡ 7) ⊎ (status ≡ 8) ⊎ (status ≡ 9)
   pub solvable : IsSolvable command told → (status ≤ 1) ⊎ (status ≡ 7) ⊎ (status ≡ 8) ⊎ (status ≡ 9)
+  pub completed : IsCompletable command told → (status ≡ 0) ⊎ (status ≡ 7) ⊎ (status ≡ 8) ⊎ (status ≡ 9)

@@ -1,7 +1,4 @@
-pub mod CriticalCliques
-pub mod Fingerprints
 pub mod Headline
-pub mod PackingBound
 pub mod Report
 pub mod Status
 pub mod Steps

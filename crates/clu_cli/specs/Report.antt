@@ -28,7 +28,7 @@ head facts blocks =
     ++ line (codes "bound " ++ signed_decimal facts.bound)
     ++ line (codes "scale 1")
     ++ line (codes "verdict " ++ verdict facts)
-    ++ line (codes "branchings 0")
+    ++ line (codes "branchings " ++ decimal facts.branchings)
     ++ line (codes "blocks " ++ decimal blocks)
 
 -- a vertex's name after a space

@@ -1,4 +1,4 @@
-//! `clu solve FILE [--certificate NAME]` and `clu check FILE NAME`: cluster editing with a proved
+//! `clu solve FILE [--certificate NAME] [--branchings N]` and `clu check FILE NAME`: cluster editing with a proved
 //! answer, and with evidence that is checked apart.
 //!
 //! `run` is the program: its contract says what the printed report, the certificate and each exit
@@ -7,10 +7,7 @@
 #![tactic(auto)]
 
 mod answer;
-mod bound;
-mod certify;
 mod checked;
-mod cliques;
 mod report;
 mod run;
 mod stop;

@@ -18,6 +18,8 @@ pub struct Facts {
     pub value: i128,
     /// No partition has fewer edits.
     pub bound: i128,
+    /// The number of branchings that were made.
+    pub branchings: u64,
 }
 
 impl Facts {
@@ -74,7 +76,7 @@ fn head_text(alloc: Global, facts: Facts, blocks: u32) -> Result<Vec<u8>, AllocE
     push_field(&mut out, "bound ", facts.bound)?;
     push_text(&mut out, "scale ", "1")?;
     push_text(&mut out, "verdict ", verdict_text(facts))?;
-    push_text(&mut out, "branchings ", "0")?;
+    push_field(&mut out, "branchings ", facts.branchings as i128)?;
     push_field(&mut out, "blocks ", blocks as i128)?;
     Ok(out)
 }

@@ -82,17 +82,18 @@ fn print<O: Sink>(out: &mut O, bytes: &[u8]) -> Result<(), Stop>
     }
 }
 
-/// Solves the graph of a file, stores the certificate where a name is given, and writes the report;
-/// says whether the value is the bound.
+/// Solves the graph of a file with this many branchings at most, stores the certificate where a name is
+/// given, and writes the report; says whether the value is the bound.
 fn solve_file<F: Folder, O: Sink>(
     alloc: Global,
     file: &str,
     certificate: Option<&str>,
+    branchings: u64,
     folder: &mut F,
     out: &mut O,
 ) -> Result<bool, Stop>
-    ensures ends { Ends (solves file.now (option_map (λ name. name.now) certificate.entry)) (F.told folder.old) (F.told folder.new)
-        (O.written out.old) (O.written out.new) result }
+    ensures ends { Ends (solves file.now (option_map (λ name. name.now) certificate.entry) branchings)
+        (F.told folder.old) (F.told folder.new) (O.written out.old) (O.written out.new) result }
     ensures asked { IsErrOf result Stop.Words → ⊥ }
     ensures read_fault { IsErrOf result Stop.ReadFault
         → Rose (F.load_faults folder.old) (F.load_faults folder.new) }
@@ -107,7 +108,7 @@ fn solve_file<F: Folder, O: Sink>(
         → O.faults out.new ≡ O.faults out.old }
 {
     let bytes = load(alloc, folder, file, MAX_BYTES)?;
-    let answer = match answer_of(alloc, &bytes) {
+    let answer = match answer_of(alloc, &bytes, branchings) {
         Ok(answer) => answer,
         Err(PaceError::Refused) => return Err(Stop::Refused),
         Err(PaceError::Memory) => return Err(Stop::Memory),
@@ -180,9 +181,13 @@ fn work<F: Folder, O: Sink>(
         → O.faults out.new ≡ O.faults out.old }
 {
     match read_words(words) {
-        Some(Command::Solve { file, certificate }) => {
-            solve_file(alloc, file, certificate, folder, out)
-        }
+        Some(
+            Command::Solve {
+                file,
+                certificate,
+                branchings,
+            },
+        ) => solve_file(alloc, file, certificate, branchings, folder, out),
         Some(Command::Check { file, certificate }) => {
             check_file(alloc, file, certificate, folder, out)
         }
@@ -217,8 +222,9 @@ fn finish<E: Sink>(alloc: Global, err: &mut E, end: Result<bool, Stop>) -> u8
 }
 
 /// Runs the command that the words name, over a folder and two sinks. The answer is the exit
-/// status: 0 for an optimal report or an accepted certificate, 1 for a report with a gap, and above
-/// that the cause why `out` has no whole report, of which `err` gets a line.
+/// status: 0 for an optimal report or an accepted certificate, 1 for a report with a gap, where all
+/// allowed branchings were made, and above that the cause why `out` has no whole report, of which
+/// `err` gets a line.
 pub fn run<F: Folder, O: Sink, E: Sink>(
     alloc: Global,
     words: &[String],

@@ -4,7 +4,13 @@ use std::process::Abort;
 use std::test::Fail;
 
 const PATH_REPORT: &str =
+    "objective edits\nvertices 3\nvalue 1\nbound 1\nscale 1\nverdict optimal\nbranchings 1\nblocks 2\nblock 1 2\nblock 3\n";
+
+const PATH_GAP_REPORT: &str =
     "objective edits\nvertices 3\nvalue 2\nbound 1\nscale 1\nverdict gap branchings\nbranchings 0\nblocks 3\nblock 1\nblock 2\nblock 3\n";
+
+const TRIANGLE_REPORT: &str =
+    "objective edits\nvertices 3\nvalue 0\nbound 0\nscale 1\nverdict optimal\nbranchings 2\nblocks 1\nblock 1 2 3\n";
 
 const ALONE_REPORT: &str =
     "objective edits\nvertices 1\nvalue 0\nbound 0\nscale 1\nverdict optimal\nbranchings 0\nblocks 1\nblock 1\n";
@@ -23,8 +29,9 @@ const STAR_CERT: &str =
     "clucert 1\nobjective edits\nvertices 4\nvalue 3\nbound 1\nblocks 1 2 3 4\nsteps 0\nparts 1\npart 1 2 3 4\nitems 1\nleaf 1 1\nrow 1 1 / 2 3\nend\n";
 
 /// The files of each case: graphs, the star's certificate, and altered copies of it.
-const FILES: [(&str, &str); 12] = [
+const FILES: [(&str, &str); 13] = [
     ("path", "p cep 3 2\n1 2\n2 3\n"),
+    ("triangle", "p cep 3 3\n1 2\n1 3\n2 3\n"),
     ("alone", "p cep 1 0\n"),
     ("loop", "p cep 3 1\n2 2\n"),
     ("star", "p cep 4 3\n1 2\n1 3\n1 4\n"),
@@ -67,7 +74,7 @@ struct Case {
     err: &'static str,
 }
 
-const CASES: [Case; 7] = [
+const CASES: [Case; 9] = [
     Case {
         words: &["solve", "alone"],
         failing: [&[], &[], &[]],
@@ -76,10 +83,24 @@ const CASES: [Case; 7] = [
         err: "",
     },
     Case {
-        words: &["solve", "path"],
+        words: &["solve", "path", "--branchings", "1"],
+        failing: [&[], &[], &[]],
+        status: 0,
+        out: PATH_REPORT,
+        err: "",
+    },
+    Case {
+        words: &["solve", "path", "--branchings", "00"],
         failing: [&[], &[], &[]],
         status: 1,
-        out: PATH_REPORT,
+        out: PATH_GAP_REPORT,
+        err: "",
+    },
+    Case {
+        words: &["solve", "triangle"],
+        failing: [&[], &[], &[]],
+        status: 0,
+        out: TRIANGLE_REPORT,
         err: "",
     },
     Case {
@@ -120,7 +141,7 @@ const CASES: [Case; 7] = [
 ];
 
 /// Words of no command.
-const WRONG_WORDS: [&[&str]; 9] = [
+const WRONG_WORDS: [&[&str]; 14] = [
     &[],
     &["solve"],
     &["solve", "-path"],
@@ -137,6 +158,11 @@ const WRONG_WORDS: [&[&str]; 9] = [
         "--certificate",
         "newer",
     ],
+    &["solve", "star", "--branchings"],
+    &["solve", "star", "--branchings=0"],
+    &["solve", "star", "--branchings", "1x"],
+    &["solve", "star", "--branchings", "18446744073709551616"],
+    &["solve", "star", "--branchings", "1", "--branchings", "1"],
 ];
 
 /// The star and a certificate that is checked against it.
@@ -199,7 +225,7 @@ const CHECKS: [Case; 8] = [
     },
 ];
 
-/// A run that stores the star's certificate under a name, and what the name holds then.
+/// A run without branchings that stores the star's certificate under a name, and what the name holds then.
 struct Stored {
     case: Case,
     name: &'static str,
@@ -209,7 +235,7 @@ struct Stored {
 const STORES: [Stored; 5] = [
     Stored {
         case: Case {
-            words: &["solve", "star", "--certificate", "old"],
+            words: &["solve", "star", "--certificate", "old", "--branchings", "0"],
             failing: [&[], &[], &[]],
             status: 1,
             out: STAR_REPORT,
@@ -220,7 +246,14 @@ const STORES: [Stored; 5] = [
     },
     Stored {
         case: Case {
-            words: &["solve", "star", "--certificate", "star"],
+            words: &[
+                "solve",
+                "star",
+                "--branchings",
+                "0",
+                "--certificate",
+                "star",
+            ],
             failing: [&[], &[], &[]],
             status: 1,
             out: STAR_REPORT,
@@ -253,7 +286,7 @@ const STORES: [Stored; 5] = [
     },
     Stored {
         case: Case {
-            words: &["solve", "star", "--certificate", "old"],
+            words: &["solve", "star", "--branchings", "0", "--certificate", "old"],
             failing: [&[], &[1], &[]],
             status: 8,
             out: "",
@@ -262,6 +295,18 @@ const STORES: [Stored; 5] = [
         name: "old",
         held: STAR_CERT,
     },
+];
+
+/// Graphs, and how many branchings are allowed, of which each certificate is then checked.
+const ROUNDS: [(&str, &str); 8] = [
+    ("alone", "0"),
+    ("path", "0"),
+    ("path", "1"),
+    ("triangle", "1"),
+    ("triangle", "2"),
+    ("star", "0"),
+    ("star", "1"),
+    ("star", "100000"),
 ];
 
 fn words_of(alloc: Global, words: &[&str]) -> Result<Vec<String>, Fail> {
@@ -306,6 +351,32 @@ fn expect_held(rt: &impl Abort, alloc: Global, stored: &Stored) -> Result<(), Fa
     Ok(())
 }
 
+/// The status of a run over a folder, of which nothing fails.
+fn status_over(alloc: Global, folder: &mut MemoryFolder, words: &[&str]) -> Result<u8, Fail> {
+    let words = words_of(alloc, words)?;
+    let mut out = MemorySink::new(alloc, Vec::new(alloc));
+    let mut err = MemorySink::new(alloc, Vec::new(alloc));
+    Ok(run(alloc, &words, folder, &mut out, &mut err))
+}
+
+fn expect_accepted(rt: &impl Abort, alloc: Global, graph: &str, limit: &str) -> Result<(), Fail> {
+    let mut folder = folder_of(alloc, &[])?;
+    let solve = [
+        "solve",
+        graph,
+        "--branchings",
+        limit,
+        "--certificate",
+        "new",
+    ];
+    assert!(rt; status_over(alloc, &mut folder, &solve)? <= 1);
+    assert_eq!(rt;
+        status_over(alloc, &mut folder, &["check", graph, "new"])?,
+        0
+    );
+    Ok(())
+}
+
 #[test]
 fn each_status_has_its_cause(rt: HostRuntime) -> Result<(), Fail> {
     for case in &CASES {
@@ -341,6 +412,14 @@ fn a_certificate_is_judged_by_the_graph(rt: HostRuntime) -> Result<(), Fail> {
 fn a_certificate_is_stored_before_the_report(rt: HostRuntime) -> Result<(), Fail> {
     for stored in &STORES {
         expect_held(&rt, rt.alloc(), stored)?;
+    }
+    Ok(())
+}
+
+#[test]
+fn what_is_stored_is_accepted(rt: HostRuntime) -> Result<(), Fail> {
+    for (graph, limit) in ROUNDS {
+        expect_accepted(&rt, rt.alloc(), graph, limit)?;
     }
     Ok(())
 }
