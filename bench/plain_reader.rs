@@ -1,6 +1,5 @@
-//! The job of `clu solve` as one writes it in Rust without proofs, to compare times with.
+//! The job of `clu solve FILE --branchings 0` as one writes it in Rust without proofs, to compare times with.
 
-use std::collections::HashMap;
 use std::env;
 use std::fmt::Write as _;
 use std::fs;
@@ -37,15 +36,6 @@ impl Stop {
 struct Graph {
     n: usize,
     edges: Vec<(u32, u32)>,
-    /// A square table: 1 where two vertices are equal or adjacent, else 0. (Bytes, since a hash map
-    /// takes a row of them at once, and bools one by one.)
-    near: Vec<u8>,
-}
-
-impl Graph {
-    fn row(&self, v: usize) -> &[u8] {
-        &self.near[v * self.n..(v + 1) * self.n]
-    }
 }
 
 fn fields(line: &[u8]) -> impl Iterator<Item = &[u8]> {
@@ -91,56 +81,19 @@ fn read_graph(bytes: &[u8]) -> Option<Graph> {
         return None;
     }
     let size = n as usize;
-    let mut near = vec![0; size * size];
-    for v in 0..size {
-        near[v * size + v] = 1;
-    }
+    // whether two vertices are adjacent
+    let mut near = vec![false; size * size];
     let mut edges = Vec::new();
     for line in lines {
         let (u, v) = read_edge(line, n)?;
         let cell = u as usize * size + v as usize;
-        if near[cell] == 1 {
+        if near[cell] {
             return None;
         }
-        near[cell] = 1;
-        near[v as usize * size + u as usize] = 1;
+        near[cell] = true;
         edges.push((u, v));
     }
-    (edges.len() == m as usize).then_some(Graph { n: size, edges, near })
-}
-
-/// The classes of equal closed neighbourhoods, by their first vertices.
-fn alike_blocks(graph: &Graph) -> Vec<Vec<usize>> {
-    let mut blocks: Vec<Vec<usize>> = Vec::new();
-    let mut block_of_row = HashMap::new();
-    for v in 0..graph.n {
-        let block = *block_of_row.entry(graph.row(v)).or_insert(blocks.len());
-        if block == blocks.len() {
-            blocks.push(Vec::new());
-        }
-        blocks[block].push(v);
-    }
-    blocks
-}
-
-/// The edges between blocks and the missing edges within them.
-fn count_edits(graph: &Graph, blocks: &[Vec<usize>]) -> usize {
-    let mut label = vec![0; graph.n];
-    for (number, block) in blocks.iter().enumerate() {
-        for v in block {
-            label[*v] = number;
-        }
-    }
-    let is_cut = |(u, v): &&(u32, u32)| label[*u as usize] != label[*v as usize];
-    let cut = graph.edges.iter().filter(is_cut).count();
-    let mut missing = 0;
-    for block in blocks {
-        for (at, v) in block.iter().enumerate() {
-            let row = graph.row(*v);
-            missing += block[..at].iter().filter(|u| row[**u] == 0).count();
-        }
-    }
-    cut + missing
+    (edges.len() == m as usize).then_some(Graph { n: size, edges })
 }
 
 /// A greedy packing of triangles, with weights as wide as `clu` has them.
@@ -218,27 +171,23 @@ impl Packing {
     }
 }
 
-fn report(n: usize, value: usize, bound: usize, blocks: &[Vec<usize>]) -> String {
+/// The report of blocks of one vertex, so that each edge is an edit.
+fn report(n: usize, value: usize, bound: usize) -> String {
     let verdict = if value == bound { "optimal" } else { "gap branchings" };
     let mut text = format!(
-        "objective edits\nvertices {n}\nvalue {value}\nbound {bound}\nscale 1\nverdict {verdict}\nbranchings 0\nblocks {}\n",
-        blocks.len()
+        "objective edits\nvertices {n}\nvalue {value}\nbound {bound}\nscale 1\nverdict {verdict}\nbranchings 0\nblocks {n}\n",
     );
-    for block in blocks {
-        text.push_str("block");
-        for v in block {
-            write!(text, " {}", v + 1).expect("a String takes all");
-        }
-        text.push('\n');
+    for v in 1..=n {
+        writeln!(text, "block {v}").expect("a String takes all");
     }
     text
 }
 
 fn run(words: &[String]) -> Result<u8, Stop> {
-    let [command, file] = words else {
+    let [command, file, option, branchings] = words else {
         return Err(Stop::Words);
     };
-    if command != "solve" || file.starts_with('-') {
+    if command != "solve" || file.starts_with('-') || option != "--branchings" || branchings != "0" {
         return Err(Stop::Words);
     }
     let bytes = fs::read(file).map_err(|error| match error.kind() {
@@ -249,10 +198,9 @@ fn run(words: &[String]) -> Result<u8, Stop> {
         return Err(Stop::TooLong);
     }
     let graph = read_graph(&bytes).ok_or(Stop::Refused)?;
-    let blocks = alike_blocks(&graph);
-    let value = count_edits(&graph, &blocks);
-    let bound = Packing::new(&graph).bound(graph.edges.len()) as usize;
-    let text = report(graph.n, value, bound, &blocks);
+    let value = graph.edges.len();
+    let bound = Packing::new(&graph).bound(value) as usize;
+    let text = report(graph.n, value, bound);
     let mut out = io::stdout().lock();
     out.write_all(text.as_bytes())
         .and_then(|()| out.flush())
