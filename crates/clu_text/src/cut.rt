@@ -1,3 +1,6 @@
+//! The lines of a text, and the fields of a line: iterators over the bytes as they stand, so nothing
+//! is copied. Their models are the lists of what is left; a line feed is sought by `memchr`.
+
 ghost use Rattle.std.specs.Prelude.{◌≡◌, ◌+◌, ◌<◌, ◌≤◌, length, drop, not};
 ghost use Rattle.std.specs.Iterator.{YieldsFirstBy, YieldsFirstRef, item_count};
 ghost use Rattle.std.specs.List.{enumerate_from, position_or_len};
@@ -68,74 +71,6 @@ pub fn fields<'a>(line: &'a [u8]) -> FieldIter<'a>
     FieldIter { rest: line }
 }
 
-fn is_blank(byte: u8) -> bool
-    ensures { result ≡ blank byte }
-{
-    byte == b' ' || byte == b'\t'
-}
-
-fn end_of_line(bytes: &[u8]) -> usize
-    ensures is { result ≡ position_or_len is_line_feed bytes.now }
-    ensures within { result ≤ length bytes.now }
-{
-    match memchr(b'\n', bytes) {
-        Some(end) => end,
-        None => bytes.len(),
-    }
-}
-
-fn start_of_field(bytes: &[u8]) -> usize
-    ensures is { result ≡ position_or_len (λ b. not (blank b)) bytes.now }
-    ensures within { result ≤ length bytes.now }
-{
-    for (i, byte) in bytes.iter().enumerate() {
-        if !is_blank(*byte) {
-            return i;
-        }
-    }
-    bytes.len()
-}
-
-fn end_of_field(bytes: &[u8]) -> usize
-    ensures is { result ≡ position_or_len blank bytes.now }
-    ensures within { result ≤ length bytes.now }
-{
-    for (i, byte) in bytes.iter().enumerate() {
-        if is_blank(*byte) {
-            return i;
-        }
-    }
-    bytes.len()
-}
-
-fn skip(bytes: &[u8], count: usize) -> &[u8]
-    requires { count ≤ length bytes.now }
-    ensures { result.now ≡ drop count bytes.now }
-{
-    &bytes[count..]
-}
-
-/// What stands behind the end of a line.
-fn after(bytes: &[u8], end: usize) -> &[u8]
-    requires { end ≤ length bytes.now }
-    ensures { result.now ≡ drop (end + 1) bytes.now }
-{
-    if end < bytes.len() {
-        &bytes[end + 1..]
-    } else {
-        &bytes[end..]
-    }
-}
-
-fn cut_return(line: &[u8]) -> &[u8]
-    ensures { result.now ≡ without_return line.now }
-{
-    match line {
-        [front @ .., b'\r'] => front,
-        _ => line,
-    }
-}
-
 impl<'a> Iterator for LineIter<'a> {
     type Item = Line<'a>;
 
@@ -174,34 +109,74 @@ impl<'a> Iterator for FieldIter<'a> {
     }
 }
 
-#[cfg(test)]
-mod tests {
-    use super::*;
-    use std::test::Fail;
+fn is_blank(byte: u8) -> bool
+    ensures { result ≡ blank byte }
+{
+    byte == b' ' || byte == b'\t'
+}
 
-    #[test]
-    fn lines_end_at_line_feeds(rt: HostRuntime) -> Result<(), Fail> {
-        let mut left = lines(b"a\r\n\nb");
-        for (number, bytes) in [
-            (1, b"a".as_slice()),
-            (2, b"".as_slice()),
-            (3, b"b".as_slice()),
-        ] {
-            let line = left.next().ok_or("a line is missing")?;
-            assert_eq!(rt; line.number, number);
-            assert_eq!(rt; line.bytes, bytes, "in line {number}");
-        }
-        assert!(rt; left.next().is_none());
-        Ok(())
+/// The place of the first line feed, or the length.
+fn end_of_line(bytes: &[u8]) -> usize
+    ensures is { result ≡ position_or_len is_line_feed bytes.now }
+    ensures within { result ≤ length bytes.now }
+{
+    match memchr(b'\n', bytes) {
+        Some(end) => end,
+        None => bytes.len(),
     }
+}
 
-    #[test]
-    fn fields_stand_between_blanks(rt: HostRuntime) -> Result<(), Fail> {
-        let mut left = fields(b"  x\ty ");
-        for field in [b"x".as_slice(), b"y".as_slice()] {
-            assert_eq!(rt; left.next().ok_or("a field is missing")?, field);
+/// The place of the first byte that is no blank, or the length.
+fn start_of_field(bytes: &[u8]) -> usize
+    ensures is { result ≡ position_or_len (λ b. not (blank b)) bytes.now }
+    ensures within { result ≤ length bytes.now }
+{
+    for (i, byte) in bytes.iter().enumerate() {
+        if !is_blank(*byte) {
+            return i;
         }
-        assert!(rt; left.next().is_none());
-        Ok(())
+    }
+    bytes.len()
+}
+
+/// The place of the first blank, or the length.
+fn end_of_field(bytes: &[u8]) -> usize
+    ensures is { result ≡ position_or_len blank bytes.now }
+    ensures within { result ≤ length bytes.now }
+{
+    for (i, byte) in bytes.iter().enumerate() {
+        if is_blank(*byte) {
+            return i;
+        }
+    }
+    bytes.len()
+}
+
+fn skip(bytes: &[u8], count: usize) -> &[u8]
+    requires { count ≤ length bytes.now }
+    ensures { result.now ≡ drop count bytes.now }
+{
+    &bytes[count..]
+}
+
+/// What stands behind the end of a line.
+pub(crate) fn after(bytes: &[u8], end: usize) -> &[u8]
+    requires { end ≤ length bytes.now }
+    ensures { result.now ≡ drop (end + 1) bytes.now }
+{
+    if end < bytes.len() {
+        &bytes[end + 1..]
+    } else {
+        &bytes[end..]
+    }
+}
+
+/// The line without the carriage return that it may end with.
+fn cut_return(line: &[u8]) -> &[u8]
+    ensures { result.now ≡ without_return line.now }
+{
+    match line {
+        [front @ .., b'\r'] => front,
+        _ => line,
     }
 }

@@ -1,6 +1,0 @@
-use Rattle.std.proofs.Common.{◌≡◌, ◌<◌, ◌^◌, take}
-use Rattle.std.specs.Str.Parse.{AllDigits, digits_value}
-use Rattle.clu_text.proofs.numbers.read_u32.Given as goal
-
-abbrev pub invariant-loop-byte : goal.invariant-loop-byte
-invariant-loop-byte l = record { digits : AllDigits 10 (take l.byte-index l.field); sum : l.value ≡ digits_value 10 (take l.byte-index l.field); small : l.value < 2 ^ 32 }
