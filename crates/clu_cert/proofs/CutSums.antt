@@ -20,8 +20,8 @@ use Rattle.clu_cert.specs.declared.certificate.Proof.{Proof}
 use Rattle.clu_cert.specs.Upper.{HasUpper}
 use Rattle.clu_cert.specs.Valid.{whole, stepped, IsPart, AllParts, Cover, part_state, HaveUppers}
 use Rattle.clu_cert.proofs.States.{part_is_state}
-use Rattle.clu_cert.proofs.PartOf.{place_of, part_at}
-use Rattle.clu_cert.proofs.Parts.{over_parts, all_placed}
+use Rattle.clu_reduce.proofs.PartOf.{place_of, part_at}
+use Rattle.clu_reduce.proofs.PartsLaw.{over_parts, all_placed}
 use Rattle.clu_cert.proofs.Uppers.{parts_in, HasRoot, HasProofs, root_state, root_members, root_best, part_sound, part_upper_least, value_low, parts_small}
 
 -- ---- one proof after those before it

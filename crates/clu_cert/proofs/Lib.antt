@@ -7,8 +7,6 @@ pub mod Joins
 pub mod Loop
 pub mod Machine
 pub mod OneUpper
-pub mod PartOf
-pub mod Parts
 pub mod Places
 pub mod Plain
 pub mod Reading

@@ -25,8 +25,8 @@ use Rattle.clu_cert.specs.Upper.{HasUpper}
 use Rattle.clu_cert.specs.Valid.{whole, AllHold, stepped, IsPart, AllParts, Cover, part_state, HaveUppers}
 use Rattle.clu_cert.proofs.Sound.{upper_sound}
 use Rattle.clu_cert.proofs.States.{IsTask, whole_is_state, permitted_class, stepped_is, stepped_state, stepped_best, part_class, part_is_state}
-use Rattle.clu_cert.proofs.PartOf.{place_of}
-use Rattle.clu_cert.proofs.Parts.{parts_law, over_parts, all_placed}
+use Rattle.clu_reduce.proofs.PartOf.{place_of}
+use Rattle.clu_reduce.proofs.PartsLaw.{parts_law, over_parts, all_placed}
 
 -- the parts of proofs
 abbrev pub parts_in : List Proof → List (List ℕ)

@@ -10,6 +10,8 @@ use Rattle.clu_objective.specs.Problem.{Posed, printed, IsBetterOrEqual}
 use Rattle.clu_state.specs.State.{State, undecided, decided, leader, are_apart, group_weight}
 use Rattle.clu_state.specs.declared.decision.Decision.{Decision}
 use Rattle.clu_reduce.specs.Reduction.{Holds, decision_of}
+pub use Rattle.clu_reduce.specs.Steps.{AllHold, stepped}
+pub use Rattle.clu_reduce.specs.Parts.{Rises, Lacks, IsPart, AllParts, Cover, is_in}
 use Rattle.clu_reduce.specs.declared.step.Step.{Step}
 use Rattle.clu_cert.specs.Upper.{HasUpper}
 use Rattle.clu_cert.specs.declared.certificate.Certificate.{Certificate}
@@ -38,51 +40,11 @@ printed_value problem labels = printed problem (value_on (weight_of problem.pair
 abbrev pub whole : Posed → Closed → State
 whole problem start = undecided problem.pairs start (below problem.pairs.n)
 
--- each step holds after those before it
-abbrev pub AllHold : State → List Step → Type 0
-AllHold s [] = Unit {0}
-AllHold s (step ∷ steps) = Holds s step × AllHold (decided s (decision_of step)) steps
-
--- the state after the steps
-abbrev pub stepped : State → List Step → State
-stepped s [] = s
-stepped s (step ∷ steps) = stepped (decided s (decision_of step)) steps
-
 -- ---- the parts
-abbrev pub Rises : List ℕ → Type 0
-Rises part = (i j : ℕ) → i < j → j < length part → slice_index part i < slice_index part j
-
-abbrev pub Lacks : List ℕ → ℕ → Type 0
-Lacks part v = Contains part v → ⊥
-
--- The part is nonempty and rising, has members alone and none of an earlier part, divides no group, and has no free pair of
--- positive weight to a group outside it.
-pub record IsPart (s : State) (earlier : List (List ℕ)) (part : List ℕ) : Type 0 where
-  pub nonempty : 0 < length part
-  pub rising : Rises part
-  pub members : All (Contains s.members) part
-  pub new : All (λ other. All (Lacks other) part) earlier
-  pub undivided : (u v : ℕ) → Contains part u → Contains s.members v → leader s u ≡ leader s v → Contains part v
-  pub settled : (u v : ℕ) → Contains part u → Contains s.members v → Lacks part v
-      → (are_apart s u v ≡ true) ⊎ (group_weight s u v ≤ℤ pos 0)
-
--- each is a part beside those before it
-abbrev pub AllParts : State → List (List ℕ) → List (List ℕ) → Type 0
-AllParts s earlier [] = Unit {0}
-AllParts s earlier (part ∷ parts) = IsPart s earlier part × AllParts s (earlier ++ part ∷ []) parts
-
--- each member is in a part
-abbrev pub Cover : State → List (List ℕ) → Type 0
-Cover s parts = All (λ v. (part : List ℕ) × Contains parts part × Contains part v) s.members
-
 abbrev pub parts_of : Certificate → List (List ℕ)
 parts_of cert = map (λ proof. proof.part) cert.proofs
 
 -- ---- the proofs of the parts
-abbrev pub is_in : List ℕ → ℕ → Bool
-is_in [] v = false
-is_in (u ∷ part) v = u == v || is_in part v
-
 -- what the steps decide within the part
 abbrev pub decisions_within : List ℕ → List Step → List Decision
 decisions_within part steps = map decision_of (filter (λ step. is_in part step.u && is_in part step.v) steps)

@@ -1,3 +1,6 @@
+//! What a certificate holds: a partition, its value, and the proof of a bound on every permitted one, by root
+//! steps and then part by part as a tree in preorder. Its lists are `Seq`s, so contracts see it as a value.
+
 use clu_objective::Objective;
 use clu_partition::{Seq, Vertex};
 use clu_reduce::Step;

@@ -1,4 +1,5 @@
-//! Bytes cut at a byte.
+//! Bytes cut at a byte: a text at its line feeds, a line at its spaces. Places are found by `memchr`, and what
+//! is cut is borrowed, so no byte is copied.
 
 ghost use Rattle.std.specs.Prelude.{◌≡◌, ◌<◌, ◌≤◌, [], ◌∷◌, length, drop, MatchOption, IfSome};
 ghost use Rattle.std.specs.List.{position_or_len, slice_split};

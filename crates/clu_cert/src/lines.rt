@@ -1,4 +1,5 @@
-//! The lines with a fixed number of fields.
+//! The lines with a fixed number of fields: each is read by one function, whose contract says that no other
+//! value has this spelling.
 
 ghost use Rattle.std.specs.Prelude.{◌≡◌, ◌≤◌, ◌^◌, ◌↔◌, ℕ, List, [], ◌∷◌, IsTrue, MatchOption, unsigned_abs};
 ghost use Rattle.clu_cert.specs.Cut.{fields_in};

@@ -1,4 +1,5 @@
-//! The lines that hold lists of numbers, and those of the items.
+//! The lines that hold lists of numbers, and those of the items. A list takes room as it is read, so a long
+//! count costs nothing before its lines are there.
 
 ghost use Rattle.std.specs.Prelude.{◌≡◌, ◌+◌, ℕ, List, ◌∷◌, ◌++◌, map, codes, IfOk, IsErrOf, IsNone, IfSome};
 ghost use Rattle.std.specs.List.{AllByRecursion};

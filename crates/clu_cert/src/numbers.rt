@@ -1,3 +1,6 @@
+//! The numbers of the text: digits without a leading zero, and one sign at most. So each number has one
+//! spelling, and a certificate one text.
+
 ghost use Rattle.std.specs.Prelude.{pos, neg_ℤ, ◌∷◌, slice_index, MatchOption, ◌≡◌, ◌<◌, ◌≤◌, ◌^◌, ◌↔◌, IsTrue, length, unsigned_abs};
 ghost use Rattle.std.specs.Fmt.{decimal, signed_decimal};
 ghost use Rattle.clu_cert.specs.Reads.{Reads};

@@ -1,4 +1,5 @@
-//! A certificate from its text.
+//! A certificate from its text: each line is handed to the reader, and the first that it refuses is the one
+//! that no text of a certificate has there.
 
 ghost use Rattle.std.specs.Prelude.{◌≡◌, IfOk, IfErr};
 ghost use Rattle.clu_cert.specs.Table.{IsTable, TableFaulty};

@@ -1,4 +1,5 @@
-//! The reader of a certificate, a line at a time.
+//! The reader of a certificate, a line at a time: a machine whose stage says which line comes next, and
+//! whose contracts say which texts may follow.
 
 ghost use Rattle.std.specs.Prelude.{◌≡◌, ◌↔◌, suc, OnOk, IsErrOf, IsTrue};
 ghost use Rattle.clu_cert.specs.Cut.{fields_in};

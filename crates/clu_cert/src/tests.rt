@@ -1,5 +1,9 @@
+//! Texts of certificates, which are read and written back, and the lines that are named where one is changed
+//! or cut.
+
 use super::*;
-use std::alloc::Global;
+use clu_objective::Objective;
+use std::alloc::{AllocError, Global};
 use std::test::*;
 
 /// A certificate of the five vertices of a small network, with a whole tree.
@@ -8,18 +12,18 @@ objective agreement
 vertices 5
 value 14
 bound 14
-blocks 1 1 2 2 3
+blocks 1 2 2 3 3
 steps 0
 parts 1
 part 1 2 3 4 5
 items 8
-branch 1 2
+branch 2 3
+pair 4 5
+pair 4 1
+leaf 1 0
+pair 2 1
 pair 3 4
 pair 3 5
-leaf 1 0
-pair 1 5
-pair 2 3
-pair 2 4
 leaf 1 0
 end
 ";
@@ -79,12 +83,98 @@ parts 0
 end
 ";
 
-/// The line that `read_cert` names, and 0 where it reads a certificate.
-fn bad_line(alloc: Global, text: &[u8]) -> Result<u64, Fail> {
+const TEXTS: [&str; 4] = [TREE, EACH_LINE, ENDS, EMPTY];
+
+/// A text, a place in it, what stands there instead, and the line that is named then.
+const CHANGES: [(&str, &str, &str, u64); 62] = [
+    (TREE, "end\n", "", 19),
+    (TREE, "value 14", "value 014", 4),
+    // lines of another form
+    (EACH_LINE, "clucert 1", "clucert 2", 1),
+    (EACH_LINE, "objective edits", "objective edit", 2),
+    (EACH_LINE, "vertices 5", "vertices 05", 3),
+    (EACH_LINE, "vertices 5", "vertices 4", 6),
+    (EACH_LINE, "value 14", "value 014", 4),
+    (EACH_LINE, "value 14", "value -0", 4),
+    (EACH_LINE, "value 14", "value +14", 4),
+    (EACH_LINE, "bound -14", "bound -014", 5),
+    (EACH_LINE, "bound -14", "bound", 5),
+    (EACH_LINE, "steps 1", "steps 0", 8),
+    (EACH_LINE, "steps 1", "steps 2", 9),
+    (EACH_LINE, "twin 1 2", "twins 1 2", 8),
+    (EACH_LINE, "twin 1 2", "Twin 1 2", 8),
+    (EACH_LINE, "twin 1 2", "twin 1", 8),
+    (EACH_LINE, "part 1 2 3 4 5", "part", 10),
+    (EACH_LINE, "items 4", "items 3", 16),
+    (EACH_LINE, "items 4", "items 5", 17),
+    (EACH_LINE, "branch 1 2", "branch 1 2 3", 12),
+    (EACH_LINE, "light 3 4", "lights 3 4", 13),
+    (EACH_LINE, "leaf 2 1", "leaf 2 0", 15),
+    (EACH_LINE, "leaf 2 1", "leaf 2 2", 16),
+    (EACH_LINE, "row 7 1 / 2 3", "row 7 / 2 3", 15),
+    (EACH_LINE, "row 7 1 / 2 3", "row 7 1 /", 15),
+    (EACH_LINE, "row 7 1 / 2 3", "row 7 1 2 3", 15),
+    (EACH_LINE, "row 7 1 / 2 3", "row 7 1 / 2 / 3", 15),
+    (EACH_LINE, "end\n", "", 17),
+    (EACH_LINE, "end\n", "end", 17),
+    (EACH_LINE, "end\n", "end\nend\n", 18),
+    (EACH_LINE, "end\n", "end\n\n", 18),
+    (EACH_LINE, "end\n", "end\nx", 18),
+    // blanks stand between fields alone
+    (EACH_LINE, "value 14", "value  14", 4),
+    (EACH_LINE, "value 14", "value 14 ", 4),
+    (EACH_LINE, "value 14", " value 14", 4),
+    (EACH_LINE, "value 14", "value\t14", 4),
+    (EACH_LINE, "value 14", "value 14\r", 4),
+    (EACH_LINE, "value 14", "\nvalue 14", 4),
+    (EACH_LINE, "end\n", "end \n", 17),
+    // numbers out of range
+    (EACH_LINE, "vertices 5", "vertices 1001", 3),
+    (
+        EACH_LINE,
+        "value 14",
+        "value 85070591730234615865843651857942052865",
+        4,
+    ),
+    (
+        EACH_LINE,
+        "bound -14",
+        "bound -85070591730234615865843651857942052865",
+        5,
+    ),
+    (EACH_LINE, "blocks 1", "blocks 0", 6),
+    (EACH_LINE, "blocks 1", "blocks 1001", 6),
+    (EACH_LINE, "twin 1 2", "twin 0 2", 8),
+    (EACH_LINE, "twin 1 2", "twin 1 1001", 8),
+    (EACH_LINE, "part 1", "part 0", 10),
+    (EACH_LINE, "part 1", "part 1001", 10),
+    (EACH_LINE, "branch 1 2", "branch 1 0", 12),
+    (EACH_LINE, "branch 1 2", "branch 1001 2", 12),
+    (EACH_LINE, "leaf 2 1", "leaf 18446744073709551616 1", 14),
+    (
+        EACH_LINE,
+        "row 7 1",
+        "row 340282366920938463463374607431768211456 1",
+        15,
+    ),
+    (EACH_LINE, "row 7 1", "row 7 0", 15),
+    (EACH_LINE, "/ 2 3", "/ 2 1001", 15),
+    (EACH_LINE, "steps 1", "steps 18446744073709551616", 7),
+    (EACH_LINE, "parts 1", "parts 18446744073709551616", 9),
+    (EACH_LINE, "items 4", "items 18446744073709551616", 11),
+    (EACH_LINE, "leaf 2 1", "leaf 2 18446744073709551616", 14),
+    // the largest counts, for which nothing is reserved
+    (EACH_LINE, "steps 1", "steps 18446744073709551615", 9),
+    (EACH_LINE, "parts 1", "parts 18446744073709551615", 17),
+    (EACH_LINE, "items 4", "items 18446744073709551615", 17),
+    (EACH_LINE, "leaf 2 1", "leaf 2 18446744073709551615", 16),
+];
+
+/// Whether `read_cert` names the line.
+fn is_named(alloc: Global, text: &[u8], line: u64) -> bool {
     match read_cert(alloc, text) {
-        Ok(_) => Ok(0),
-        Err(CertError::Bad(bad)) => Ok(bad.line),
-        Err(CertError::Memory) => Err(Fail::from("no memory")),
+        Err(CertError::Bad(bad)) => bad.line == line,
+        _ => false,
     }
 }
 
@@ -98,152 +188,59 @@ fn changed(alloc: Global, text: &str, old: &str, new: &str) -> Result<Vec<u8>, F
     Ok(bytes)
 }
 
+/// Whether the text is that of the certificate that is read of it.
+fn is_written_back(alloc: Global, text: &str) -> Result<bool, AllocError> {
+    let Ok(cert) = read_cert(alloc, text.as_bytes()) else {
+        return Ok(false);
+    };
+    let written = write_cert(alloc, &cert)?;
+    Ok(written.as_slice() == text.as_bytes())
+}
+
+/// Whether it has what `TREE` says.
+fn is_tree(cert: &Certificate) -> bool {
+    let [proof] = cert.proofs.as_slice() else {
+        return false;
+    };
+    cert.objective == Objective::Agreement
+        && cert.value == 14
+        && cert.labels.as_slice() == [0, 1, 1, 2, 2].as_slice()
+        && cert.root_steps.len() == 0
+        && proof.part.len() == 5
+        && proof.items.len() == 8
+}
+
+/// The number of the line behind a byte of this line.
+fn line_behind(line: u64, byte: u8) -> u64 {
+    if byte == b'\n' {
+        line.saturating_add(1)
+    } else {
+        line
+    }
+}
+
 #[test]
 fn texts_are_read_and_written_back(rt: HostRuntime) -> Result<(), Fail> {
-    for text in [TREE, EACH_LINE, ENDS, EMPTY] {
-        let cert = read_cert(rt.alloc(), text.as_bytes())
-            .ok()
-            .ok_or("no certificate")?;
-        let written = write_cert(rt.alloc(), &cert)?;
-        assert_eq!(rt; written.as_slice(), text.as_bytes());
+    for text in &TEXTS {
+        assert!(rt; is_written_back(rt.alloc(), *text)?, "{text}");
     }
     Ok(())
 }
 
 #[test]
 fn the_tree_has_its_items(rt: HostRuntime) -> Result<(), Fail> {
-    let cert = read_cert(rt.alloc(), TREE.as_bytes())
-        .ok()
-        .ok_or("no certificate")?;
-    assert!(rt; cert.objective == clu_objective::Objective::Agreement);
-    assert_eq!(rt; cert.value, 14);
-    assert_eq!(rt; cert.labels.as_slice(), [0, 0, 1, 1, 2].as_slice());
-    assert_eq!(rt; cert.root_steps.len(), 0);
-    let [proof] = cert.proofs.as_slice() else {
-        return Err(Fail::from("one proof"));
+    let Ok(cert) = read_cert(rt.alloc(), TREE.as_bytes()) else {
+        return Err(Fail::from("no certificate"));
     };
-    assert_eq!(rt; proof.part.len(), 5);
-    assert_eq!(rt; proof.items.len(), 8);
+    assert!(rt; is_tree(&cert));
     Ok(())
 }
 
 #[test]
-fn the_tree_changed_is_refused_at_the_line(rt: HostRuntime) -> Result<(), Fail> {
-    for (old, new, line) in [("end\n", "", 19), ("value 14", "value 014", 4)] {
-        let text = changed(rt.alloc(), TREE, old, new)?;
-        assert_eq!(rt; bad_line(rt.alloc(), text.as_slice())?, line, "with {new}");
-    }
-    Ok(())
-}
-
-#[test]
-fn bad_lines_are_named(rt: HostRuntime) -> Result<(), Fail> {
-    for (old, new, line) in [
-        ("clucert 1", "clucert 2", 1),
-        ("objective edits", "objective edit", 2),
-        ("vertices 5", "vertices 05", 3),
-        ("vertices 5", "vertices 4", 6),
-        ("value 14", "value 014", 4),
-        ("value 14", "value -0", 4),
-        ("value 14", "value +14", 4),
-        ("bound -14", "bound -014", 5),
-        ("bound -14", "bound", 5),
-        ("steps 1", "steps 0", 8),
-        ("steps 1", "steps 2", 9),
-        ("twin 1 2", "twins 1 2", 8),
-        ("twin 1 2", "Twin 1 2", 8),
-        ("twin 1 2", "twin 1", 8),
-        ("part 1 2 3 4 5", "part", 10),
-        ("items 4", "items 3", 16),
-        ("items 4", "items 5", 17),
-        ("branch 1 2", "branch 1 2 3", 12),
-        ("light 3 4", "lights 3 4", 13),
-        ("leaf 2 1", "leaf 2 0", 15),
-        ("leaf 2 1", "leaf 2 2", 16),
-        ("row 7 1 / 2 3", "row 7 / 2 3", 15),
-        ("row 7 1 / 2 3", "row 7 1 /", 15),
-        ("row 7 1 / 2 3", "row 7 1 2 3", 15),
-        ("row 7 1 / 2 3", "row 7 1 / 2 / 3", 15),
-        ("end\n", "", 17),
-        ("end\n", "end", 17),
-        ("end\n", "end\nend\n", 18),
-        ("end\n", "end\n\n", 18),
-        ("end\n", "end\nx", 18),
-    ] {
-        let text = changed(rt.alloc(), EACH_LINE, old, new)?;
-        assert_eq!(rt; bad_line(rt.alloc(), text.as_slice())?, line, "with {new}");
-    }
-    Ok(())
-}
-
-#[test]
-fn blanks_stand_between_fields_alone(rt: HostRuntime) -> Result<(), Fail> {
-    for (old, new, line) in [
-        ("value 14", "value  14", 4),
-        ("value 14", "value 14 ", 4),
-        ("value 14", " value 14", 4),
-        ("value 14", "value\t14", 4),
-        ("value 14", "value 14\r", 4),
-        ("value 14", "\nvalue 14", 4),
-        ("end\n", "end \n", 17),
-    ] {
-        let text = changed(rt.alloc(), EACH_LINE, old, new)?;
-        assert_eq!(rt; bad_line(rt.alloc(), text.as_slice())?, line, "with {new}");
-    }
-    Ok(())
-}
-
-#[test]
-fn numbers_out_of_range_are_refused(rt: HostRuntime) -> Result<(), Fail> {
-    for (old, new, line) in [
-        ("vertices 5", "vertices 1001", 3),
-        (
-            "value 14",
-            "value 85070591730234615865843651857942052865",
-            4,
-        ),
-        (
-            "bound -14",
-            "bound -85070591730234615865843651857942052865",
-            5,
-        ),
-        ("blocks 1", "blocks 0", 6),
-        ("blocks 1", "blocks 1001", 6),
-        ("twin 1 2", "twin 0 2", 8),
-        ("twin 1 2", "twin 1 1001", 8),
-        ("part 1", "part 0", 10),
-        ("part 1", "part 1001", 10),
-        ("branch 1 2", "branch 1 0", 12),
-        ("branch 1 2", "branch 1001 2", 12),
-        ("leaf 2 1", "leaf 18446744073709551616 1", 14),
-        (
-            "row 7 1",
-            "row 340282366920938463463374607431768211456 1",
-            15,
-        ),
-        ("row 7 1", "row 7 0", 15),
-        ("/ 2 3", "/ 2 1001", 15),
-        ("steps 1", "steps 18446744073709551616", 7),
-        ("parts 1", "parts 18446744073709551616", 9),
-        ("items 4", "items 18446744073709551616", 11),
-        ("leaf 2 1", "leaf 2 18446744073709551616", 14),
-    ] {
-        let text = changed(rt.alloc(), EACH_LINE, old, new)?;
-        assert_eq!(rt; bad_line(rt.alloc(), text.as_slice())?, line, "with {new}");
-    }
-    Ok(())
-}
-
-#[test]
-fn the_largest_count_reserves_nothing(rt: HostRuntime) -> Result<(), Fail> {
-    for (old, new, line) in [
-        ("steps 1", "steps 18446744073709551615", 9),
-        ("parts 1", "parts 18446744073709551615", 17),
-        ("items 4", "items 18446744073709551615", 17),
-        ("leaf 2 1", "leaf 2 18446744073709551615", 16),
-    ] {
-        let text = changed(rt.alloc(), EACH_LINE, old, new)?;
-        assert_eq!(rt; bad_line(rt.alloc(), text.as_slice())?, line, "with {new}");
+fn a_changed_line_is_named(rt: HostRuntime) -> Result<(), Fail> {
+    for (text, old, new, line) in &CHANGES {
+        let text = changed(rt.alloc(), *text, *old, *new)?;
+        assert!(rt; is_named(rt.alloc(), text.as_slice(), *line), "with {new}");
     }
     Ok(())
 }
@@ -253,10 +250,8 @@ fn a_text_that_is_cut_is_refused_where_it_ends(rt: HostRuntime) -> Result<(), Fa
     let text = EACH_LINE.as_bytes();
     let mut line: u64 = 1;
     for (length, byte) in text.iter().enumerate() {
-        assert_eq!(rt; bad_line(rt.alloc(), &text[..length])?, line, "at {length}");
-        if *byte == b'\n' {
-            line = line.checked_add(1).ok_or("too many lines")?;
-        }
+        assert!(rt; is_named(rt.alloc(), &text[..length], line), "at {length}");
+        line = line_behind(line, *byte);
     }
     Ok(())
 }

@@ -1,4 +1,4 @@
-//! The text of a certificate.
+//! The text of a certificate, line by line, appended to one vector.
 
 ghost use Rattle.std.specs.Prelude.{◌≡◌, ◌+◌, ◌++◌, [], ◌∷◌, map, codes, OnOk, IfOk};
 ghost use Rattle.std.specs.List.{flat_map};

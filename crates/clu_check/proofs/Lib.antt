@@ -9,7 +9,9 @@ pub mod Obeyed
 pub mod Parting
 pub mod Rising
 pub mod SameValue
+pub mod Sharing
 pub mod Summing
 pub mod TakePart
 pub mod TreePaths
 pub mod TreeReads
+pub mod Within

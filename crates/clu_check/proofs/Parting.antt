@@ -15,6 +15,7 @@ use Rattle.clu_cert.specs.Valid.{AllParts, IsPart, Lacks, Cover, whole}
 use Rattle.clu_cert.specs.declared.certificate.Proof.{Proof}
 use Rattle.clu_check.specs.Parts.{AreOwned}
 use Rattle.clu_check.proofs.Membership.{below_member}
+use Rattle.clu_check.proofs.TakePart.{part_of}
 use Rattle.clu_check.specs.Rejected.{IsFirstBadPart, IsUncovered}
 
 abbrev pub parts : List Proof → List (List ℕ)
@@ -114,7 +115,7 @@ module _ (s : State) (ps : List (List ℕ)) (owner : List ℕ) (members : s.memb
       let size = below_size (length owner) in
       let at : i < length owner = omega (arith, l, size) in
       subst (λ (v : ℕ). (part : List ℕ) × Contains ps part × Contains part v) (sym (below_at (length owner) i 0 at))
-      (owned.given i at (λ e. none (i, at, e)))))
+      (part_of ps owner owned i at (λ e. none (i, at, e)))))
 
   pub uncovered : Contains owner 0 → AllParts s [] ps → IsUncovered s ps (length ps + 1)
   uncovered c right = record {

@@ -7,13 +7,14 @@ use Rattle.std.proofs.lemmas.List.Sums.{sum_by-append}
 use Rattle.clu_partition.specs.Closed.{Closed}
 use Rattle.clu_partition.specs.Sums.{total}
 use Rattle.clu_objective.specs.Problem.{Posed}
-use Rattle.clu_state.specs.State.{State, IsState, undecided}
+use Rattle.clu_state.specs.State.{State, IsState}
+use Rattle.clu_state.specs.declared.decision.Decision.{Decision}
 use Rattle.clu_reduce.specs.declared.step.Step.{Step}
 use Rattle.clu_cert.specs.declared.certificate.Certificate.{Certificate}
 use Rattle.clu_cert.specs.declared.certificate.Item.{Item}
 use Rattle.clu_cert.specs.declared.certificate.Proof.{Proof}
 use Rattle.clu_cert.specs.Upper.{HasUpper, IsBadStep, IsBadLeaf}
-use Rattle.clu_cert.specs.Valid.{whole, part_state, HaveUppers}
+use Rattle.clu_cert.specs.Valid.{whole, part_state, decisions_within, HaveUppers}
 use Rattle.clu_cert.proofs.States.{IsTask}
 use Rattle.clu_cert.proofs.Uppers.{HasRoot, HasProofs}
 use Rattle.clu_cert.proofs.ValidLaws.{cut_size}
@@ -22,7 +23,6 @@ use Rattle.clu_check.specs.Rejected.{HaveParts, ProofFails, ItemFails, TreeFails
 use Rattle.clu_check.specs.Proved.{HasRules, IsItemFault}
 use Rattle.clu_check.specs.declared.reject.Reject.{Reject}
 use Rattle.clu_check.specs.declared.reject.Reject.TheVariants.{Shape, Blocks, Rule, Value, Step as StepFault, Parts, Leaf, Unfinished, Bound, Memory}
-use Rattle.clu_check.proofs.Checked.{none_held}
 use Rattle.clu_check.proofs.Parting.{cut_at}
 use Rattle.clu_check.proofs.ItemFaults.{saturated}
 
@@ -36,19 +36,20 @@ pub record IsSummed (problem : Posed) (start : Closed) (cert : Certificate) (i :
   pub proved : HaveUppers problem start cert.root_steps (take i cert.proofs) uppers
   pub sum_is : sum ≡ cut_total (2 ^ 100) uppers
   pub small : unsigned_abs sum ≤ 2 ^ 100 * i
-  pub counted : earlier ≡ as_count (items_of (take i cert.proofs))
+  pub counted : earlier ≡ as_count (length cert.root_steps + items_of (take i cert.proofs))
 
 take_none : {A : Type 0} (xs : List A) → take 0 xs ≡ []
 take_none [] = refl
 take_none (x ∷ xs) = refl
 
-pub summed_none : (problem : Posed) (start : Closed) (cert : Certificate) → IsSummed problem start cert 0 (pos 0) 0
-summed_none problem start cert = record {
+pub summed_none : (problem : Posed) (start : Closed) (cert : Certificate) (earlier : ℕ) → earlier ≡ length cert.root_steps → earlier < 2 ^ 64 →
+    IsSummed problem start cert 0 (pos 0) earlier
+summed_none problem start cert earlier is few = record {
   uppers = [];
   proved = subst (λ (ps : List Proof). HaveUppers problem start cert.root_steps ps []) (sym (take_none cert.proofs)) tt;
   sum_is = refl;
   small = omega (arith, ints);
-  counted = let e = ap items_of (take_none cert.proofs) in omega (arith, e);
+  counted = let e = ap items_of (take_none cert.proofs) in omega (arith, e, is, few);
 }
 
 task_of : (problem : Posed) (start : Closed) → HasRules problem start → IsTask problem start
@@ -68,10 +69,11 @@ fits sum cut upper i e s l = omega (arith, ints)
 
 -- ---- the part that is read next
 module _ (problem : Posed) (start : Closed) (cert : Certificate) (rules : HasRules problem start) (parts : HaveParts problem start cert)
-    (list : List Proof) (are : list ≡ cert.proofs)
-    (i : ℕ) (proof : Proof) (at' : i < length list) (is : proof ≡ get_or list i proof) where
-  no_steps : cert.root_steps ≡ []
-  no_steps = none_held (whole problem start) cert.root_steps parts.root.steps
+    (list : List Proof) (are : list ≡ cert.proofs) (i : ℕ) (proof : Proof) (at' : i < length list) (is : proof ≡ get_or list i proof)
+    (steps : List Step) (same : decisions_within proof.part steps ≡ decisions_within proof.part cert.root_steps) where
+  -- the state of the part with these decisions
+  abbrev deciding : List Decision → State
+  deciding ds = record { pairs = problem.pairs; start = start; members = proof.part; decisions = ds }
 
   within : i < length cert.proofs
   within = let e = ap length are in omega (arith, e, at')
@@ -79,15 +81,15 @@ module _ (problem : Posed) (start : Closed) (cert : Certificate) (rules : HasRul
   read : proof ≡ get_or cert.proofs i proof
   read = is ∙ ap (λ (ps : List Proof). get_or ps i proof) are
 
-  pub state_of_proof : IsState (undecided problem.pairs start proof.part)
-  state_of_proof = subst (λ (steps : List Step). IsState (part_state problem start steps proof.part)) no_steps
+  pub state_of_proof : IsState (part_state problem start steps proof.part)
+  state_of_proof = subst (λ (ds : List Decision). IsState (deciding ds)) (sym same)
       (proof_state problem start cert.root_steps cert.proofs i proof (root_of problem start cert rules parts) parts.parts within read)
 
-  upper_there : (upper : ℤ) → HasUpper (undecided problem.pairs start proof.part) proof.items upper →
+  upper_there : (upper : ℤ) → HasUpper (part_state problem start steps proof.part) proof.items upper →
       HasUpper (part_state problem start cert.root_steps proof.part) proof.items upper
-  upper_there upper h = subst (λ (steps : List Step). HasUpper (part_state problem start steps proof.part) proof.items upper) (sym no_steps) h
+  upper_there upper h = subst (λ (ds : List Decision). HasUpper (deciding ds) proof.items upper) same h
 
-  least : (upper : ℤ) → HasUpper (undecided problem.pairs start proof.part) proof.items upper → neg_ℤ (pos (2 ^ 88)) ≤ℤ upper
+  least : (upper : ℤ) → HasUpper (part_state problem start steps proof.part) proof.items upper → neg_ℤ (pos (2 ^ 88)) ≤ℤ upper
   least upper h = proof_least problem start cert.root_steps cert.proofs i proof upper
       (root_of problem start cert rules parts) parts.parts within read (upper_there upper h)
 
@@ -98,7 +100,7 @@ module _ (problem : Posed) (start : Closed) (cert : Certificate) (rules : HasRul
   items_next = ap items_of next ∙ sum_by-append (λ (p : Proof). length p.items) (take i cert.proofs) (proof ∷ []) ∙ omega arith
 
   module _ (sum : ℤ) (earlier : ℕ) (old : IsSummed problem start cert i sum earlier) where
-    pub small_next : (upper : ℤ) → HasUpper (undecided problem.pairs start proof.part) proof.items upper →
+    pub small_next : (upper : ℤ) → HasUpper (part_state problem start steps proof.part) proof.items upper →
         unsigned_abs (sum +ℤ int_min upper (pos (2 ^ 100))) ≤ 2 ^ 100 * (i + 1)
     small_next upper h = cut_size_next sum upper i old.small (least upper h)
 
@@ -106,7 +108,7 @@ module _ (problem : Posed) (start : Closed) (cert : Certificate) (rules : HasRul
     few_next = let f = few_proofs problem start cert.root_steps cert.proofs (root_of problem start cert rules parts) parts.parts parts.cover in
         let w = within in omega (arith, f, w)
 
-    pub summed_more : (upper now : ℤ) (count : ℕ) → HasUpper (undecided problem.pairs start proof.part) proof.items upper →
+    pub summed_more : (upper now : ℤ) (count : ℕ) → HasUpper (part_state problem start steps proof.part) proof.items upper →
         now ≡ sum +ℤ int_min upper (pos (2 ^ 100))
         → count ≡ min (earlier + length proof.items) (2 ^ 64 - 1) → IsSummed problem start cert (i + 1) now count
     summed_more upper now count h e n = record {
@@ -115,15 +117,15 @@ module _ (problem : Posed) (start : Closed) (cert : Certificate) (rules : HasRul
           (uppers_more problem start cert.root_steps (take i cert.proofs) old.uppers proof upper old.proved (upper_there upper h));
       sum_is = e ∙ ap (λ (z : ℤ). z +ℤ int_min upper (pos (2 ^ 100))) old.sum_is ∙ sym (cut_more (2 ^ 100) old.uppers upper);
       small = subst (λ (z : ℤ). unsigned_abs z ≤ 2 ^ 100 * (i + 1)) (sym e) (small_next upper h);
-      counted = n ∙ saturated (2 ^ 64 - 1) (items_of (take i cert.proofs)) earlier (length proof.items) old.counted
-          ∙ ap as_count (sym items_next);
+      counted = n ∙ saturated (2 ^ 64 - 1) (length cert.root_steps + items_of (take i cert.proofs)) earlier (length proof.items) old.counted
+          ∙ ap as_count (let e = items_next in omega (arith, e));
     }
 
-    pub fits_next : (upper cut : ℤ) → HasUpper (undecided problem.pairs start proof.part) proof.items upper →
+    pub fits_next : (upper cut : ℤ) → HasUpper (part_state problem start steps proof.part) proof.items upper →
         cut ≡ int_min upper (pos (2 ^ 100)) → FitsSigned w128 (sum +ℤ cut)
     fits_next upper cut h e = fits sum cut (int_min upper (pos (2 ^ 100))) i e (small_next upper h) few_next
 
-    pub summed_next : (upper cut : ℤ) → HasUpper (undecided problem.pairs start proof.part) proof.items upper →
+    pub summed_next : (upper cut : ℤ) → HasUpper (part_state problem start steps proof.part) proof.items upper →
         cut ≡ int_min upper (pos (2 ^ 100)) → (size count : ℕ) → size ≡ length proof.items
         → count ≡ min (earlier + size) (2 ^ 64 - 1) → IsSummed problem start cert (i + 1) (to_z w128 (of_z w128 (sum +ℤ cut))) count
     summed_next upper cut h e size count s n =
@@ -135,8 +137,8 @@ module _ (problem : Posed) (start : Closed) (cert : Certificate) (rules : HasRul
     before_count : length (take i cert.proofs) ≡ i
     before_count = let w = within in length-take-le i cert.proofs (omega (arith, w))
 
-    fails : (Fails : State → List Item → ℕ → ℕ → Type 0) → Fails (undecided problem.pairs start proof.part) proof.items
-        (items_of (take i cert.proofs)) (i + 1)
+    fails : (Fails : State → List Item → ℕ → ℕ → Type 0) → Fails (part_state problem start steps proof.part) proof.items
+        (length cert.root_steps + items_of (take i cert.proofs)) (i + 1)
         → ProofFails problem start cert Fails
     fails Fails h = record {
       before = take i cert.proofs;
@@ -146,16 +148,14 @@ module _ (problem : Posed) (start : Closed) (cert : Certificate) (rules : HasRul
       uppers = old.uppers;
       proved = old.proved;
       fails =
-          let none = ap length no_steps in
-          let earlier_is : items_of (take i cert.proofs) ≡ length cert.root_steps + items_of (take i cert.proofs) = omega (arith, none) in
           let number_is : i + 1 ≡ length (take i cert.proofs) + 1 = ap (λ (k : ℕ). k + 1) (sym before_count) in
-          subst (λ (steps : List Step). Fails (part_state problem start steps proof.part) proof.items
-          (length cert.root_steps + items_of (take i cert.proofs)) (length (take i cert.proofs) + 1)) (sym no_steps)
-          (subst (λ (k : ℕ). Fails (undecided problem.pairs start proof.part) proof.items k (length (take i cert.proofs) + 1)) earlier_is
-          (subst (λ (k : ℕ). Fails (undecided problem.pairs start proof.part) proof.items (items_of (take i cert.proofs)) k) number_is h));
+          subst (λ (ds : List Decision). Fails (deciding ds) proof.items
+          (length cert.root_steps + items_of (take i cert.proofs)) (length (take i cert.proofs) + 1)) same
+          (subst (λ (k : ℕ). Fails (part_state problem start steps proof.part) proof.items
+          (length cert.root_steps + items_of (take i cert.proofs)) k) number_is h);
     }
 
-    pub rejected_of : (reject : Reject) → IsItemFault (undecided problem.pairs start proof.part) proof.items (items_of (take i cert.proofs))
+    pub rejected_of : (reject : Reject) → IsItemFault (part_state problem start steps proof.part) proof.items (length cert.root_steps + items_of (take i cert.proofs))
         (i + 1) reject → IsRejected problem start cert reject
     rejected_of Shape h = absurd h
     rejected_of Blocks h = absurd h

@@ -1,12 +1,24 @@
 -- When a list is a part, by the tests of the checker, and whose the vertices are then.
-use Rattle.std.proofs.Common.{◌≡◌, ◌≢◌, ℕ, ◌+◌, ◌<◌, ◌≤◌, ◌⊎◌, inl, inr, ⊎_elim, List, [], ◌∷◌, ◌++◌, true, false, length, slice_index, get_or, Contains, All, sym, ◌∙◌, ap, arith, if◌then◌else◌, length-append}
+use Rattle.std.proofs.Common.{◌≡◌, ◌≢◌, ℕ, ◌+◌, ◌-◌, ◌<◌, ◌≤◌, ◌⊎◌, inl, inr, ⊎_elim, List, [], ◌∷◌, ◌++◌, true, false, length, slice_index, get_or, Contains, All, sym, ◌∙◌, ap, arith, if◌then◌else◌, length-append, subst}
+use Rattle.std.proofs.Math.Seq.{get_or-append_seam}
+use Rattle.std.proofs.lemmas.List.{get_or_append_left}
 use Rattle.std.proofs.lemmas.Bool.{cases_eq}
-use Rattle.std.proofs.lemmas.List.Elements.{All-contains, All-from_get_or, All-get_or, All-push, Contains-append_left, Contains-push, Contains-get_or}
+use Rattle.std.proofs.lemmas.List.Elements.{All-contains, All-from_get_or, All-get_or, All-push, Contains-get_or}
 use Rattle.clu_partition.specs.Partition.{below}
 use Rattle.clu_state.specs.State.{State}
 use Rattle.clu_cert.specs.Valid.{is_in, IsPart, Lacks}
 use Rattle.clu_check.specs.Parts.{AreOwned, IsGiven, MayBePart, IsSettled, IsSettledWith}
 use Rattle.clu_check.proofs.Membership.{IsInOrNot, inside, outside, in_or_not, below_from, below_member}
+
+-- a vertex with a number is in a part
+pub part_of : (earlier : List (List ℕ)) (owner : List ℕ) → AreOwned earlier owner → (v : ℕ) → v < length owner → slice_index owner v ≢ 0 →
+    (part : List ℕ) × Contains earlier part × Contains part v
+part_of earlier owner owned v l d =
+    let k = owned.numbers v l in (
+      get_or earlier (slice_index owner v - 1) [],
+      Contains-get_or earlier (slice_index owner v - 1) [] (omega (arith, d, k)),
+      owned.given v l d,
+    )
 
 pub members_of : (s : State) (part owner : List ℕ) → s.members ≡ below (length owner) → MayBePart owner part → All (Contains s.members) part
 members_of s part owner members may = All-from_get_or (Contains s.members) part 0 (λ i l.
@@ -17,7 +29,7 @@ module _ (s : State) (earlier : List (List ℕ)) (part owner : List ℕ) (number
     (owned : AreOwned earlier owner) where
   owner_none : IsPart s earlier part → (v : ℕ) → Contains part v → v < length owner → slice_index owner v ≡ 0
   owner_none is v c l = ⊎_elim (λ e. e) (λ d.
-      let p = owned.given v l d in
+      let p = part_of earlier owner owned v l d in
       absurd (All-contains (Lacks p.0) part v (All-contains (λ other. All (Lacks other) part) earlier p.0 is.new p.1) c p.2))
       (cases_eq (slice_index owner v) 0)
 
@@ -84,10 +96,19 @@ module _ (s : State) (earlier : List (List ℕ)) (part owner : List ℕ) (number
     later_without v l z (outside t n) = All-push (λ p. Lacks p v) earlier part (owned.without v l (sym (number_out v l t) ∙ z)) n
 
     later_given : (v : ℕ) → v < length owner → slice_index new v ≢ 0 → IsInOrNot part v →
-        (p : List ℕ) × Contains (earlier ++ part ∷ []) p × Contains p v
-    later_given v l d (inside t c) = (part, Contains-push earlier part, c)
-    later_given v l d (outside t n) = let h = owned.given v l (λ e. d (number_out v l t ∙ e)) in
-        (h.0, Contains-append_left earlier (part ∷ []) h.0 h.1, h.2)
+        Contains (get_or (earlier ++ part ∷ []) (slice_index new v - 1) []) v
+    later_given v l d (inside t c) =
+        let e = number_in v l t in
+        let place : slice_index new v - 1 ≡ length earlier = omega (arith, e, count) in
+        subst (λ (j : ℕ). Contains (get_or (earlier ++ part ∷ []) j []) v) (sym place)
+        (subst (λ (p : List ℕ). Contains p v) (sym (get_or-append_seam earlier part [] [])) c)
+    later_given v l d (outside t n) =
+        let e = number_out v l t in
+        let k = owned.numbers v l in
+        let place : slice_index new v - 1 ≡ slice_index owner v - 1 = omega (arith, e) in
+        subst (λ (j : ℕ). Contains (get_or (earlier ++ part ∷ []) j []) v) (sym place)
+        (subst (λ (p : List ℕ). Contains p v) (sym (get_or_append_left earlier (part ∷ []) [] (slice_index owner v - 1) (omega (arith, d, e, k))))
+        (owned.given v l (λ z. d (e ∙ z))))
 
     later_number : (v : ℕ) → v < length owner → IsInOrNot part v → slice_index new v ≤ length (earlier ++ part ∷ [])
     later_number v l (inside t c) = let e = number_in v l t in omega (arith, e, count, length-append earlier (part ∷ []))

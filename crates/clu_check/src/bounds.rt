@@ -1,21 +1,28 @@
-//! What the items of all parts prove.
-ghost use Rattle.std.specs.Prelude.{◌≡◌, ◌≤◌, ◌<◌, ◌^◌, [], ℕ, ℤ, pos, List, IfErr, IfOk, OnOk, length};
-ghost use Rattle.clu_state.specs.State.{IsState, undecided};
+//! What the items of all parts prove: each part is read from its own vertices with the root steps within
+//! it, and the sum of what they prove bounds every permitted partition. The working space of the leaves
+//! is made once.
+
+ghost use Rattle.std.specs.Prelude.{◌≡◌, ◌≤◌, ◌<◌, ◌^◌, ◌++◌, ◌∷◌, [], ℕ, ℤ, pos, List, IfErr, IfOk, OnOk, length};
+ghost use Rattle.clu_state.specs.State.{IsState};
 ghost use Rattle.clu_objective.specs.Problem.{IsBetterOrEqual};
 ghost use Rattle.clu_cert.specs.Upper.{HasUpper};
-ghost use Rattle.clu_cert.specs.Valid.{HaveUppers, proved_bound as proved_bound_of};
+ghost use Rattle.clu_cert.specs.Valid.{HaveUppers, parts_of, part_state, is_in, Rises, decisions_within, proved_bound as proved_bound_of};
 ghost use Rattle.clu_check.specs.Rejected.{HaveParts, IsRejected, as_count};
+ghost use Rattle.clu_check.specs.Parts.{AreNumbered};
 ghost use Rattle.clu_check.specs.Proved.{HasRules, IsItemFault, rejected_by};
 ghost use Rattle.std.specs.Int.{int_min};
 ghost use Rattle.clu_partition.specs.Sums.{total};
 
 use crate::Reject;
+use crate::shares::steps_by_part;
 use crate::tree::{TreeFault, upper_of};
 use clu_cert::{Certificate, Proof};
 use clu_objective::Problem;
-use clu_partition::Start;
+use clu_partition::{Start, Vertex, is_member};
+use clu_reduce::Step;
 use clu_rows::Residual;
-use std::alloc::Global;
+use clu_state::Decision;
+use std::alloc::{AllocError, Global};
 
 /// Refuses items that prove no bound, or a bound that is better than what they prove.
 pub(crate) fn check_bound(
@@ -23,15 +30,18 @@ pub(crate) fn check_bound(
     problem: &Problem,
     start: &Start,
     c: &Certificate,
+    owner: &[usize],
 ) -> Result<(), Reject>
     requires rules { HasRules problem.now start.now }
     requires parts { HaveParts problem.now start.now c.now }
+    requires numbered { AreNumbered (parts_of c.now) owner.now }
+    requires size { length owner.now ≡ problem.now.pairs.n }
     ensures ok { OnOk result ((uppers : List ℤ)
         × HaveUppers problem.now start.now c.now.root_steps c.now.proofs uppers
         × IsBetterOrEqual problem.now.objective c.now.bound (proved_bound_of problem.now uppers)) }
     ensures rejected { IfErr result (λ reject. IsRejected problem.now start.now c.now reject) }
 {
-    let found = proved_bound(alloc, problem, start, c)?;
+    let found = proved_bound(alloc, problem, start, c, owner)?;
     if !problem.better_or_equal(c.bound, found) {
         return Err(Reject::Bound { found });
     }
@@ -44,15 +54,18 @@ fn proved_bound(
     problem: &Problem,
     start: &Start,
     c: &Certificate,
+    owner: &[usize],
 ) -> Result<i128, Reject>
     requires rules { HasRules problem.now start.now }
     requires parts { HaveParts problem.now start.now c.now }
+    requires numbered { AreNumbered (parts_of c.now) owner.now }
+    requires size { length owner.now ≡ problem.now.pairs.n }
     ensures ok { IfOk result (λ found. (uppers : List ℤ)
         × HaveUppers problem.now start.now c.now.root_steps c.now.proofs uppers
         × (found ≡ proved_bound_of problem.now uppers)) }
     ensures rejected { IfErr result (λ reject. IsRejected problem.now start.now c.now reject) }
 {
-    let sum = sum_of_uppers(alloc, problem, start, c)?;
+    let sum = sum_of_uppers(alloc, problem, start, c, owner)?;
     Ok(problem.printed(sum.min(1 << 88)))
 }
 
@@ -63,20 +76,34 @@ fn sum_of_uppers(
     problem: &Problem,
     start: &Start,
     c: &Certificate,
+    owner: &[usize],
 ) -> Result<i128, Reject>
     requires rules { HasRules problem.now start.now }
     requires parts { HaveParts problem.now start.now c.now }
+    requires numbered { AreNumbered (parts_of c.now) owner.now }
+    requires size { length owner.now ≡ problem.now.pairs.n }
     ensures ok { IfOk result (λ sum. (uppers : List ℤ)
         × HaveUppers problem.now start.now c.now.root_steps c.now.proofs uppers
         × (int_min sum (pos (2 ^ 88)) ≡ int_min (total (λ upper. upper) uppers) (pos (2 ^ 88)))) }
     ensures rejected { IfErr result (λ reject. IsRejected problem.now start.now c.now reject) }
 {
     let mut scratch = Residual::new(alloc, problem.pairs.n())?;
-    let mut earlier: u64 = 0;
+    let proofs = c.proofs.as_slice();
+    let shares = steps_by_part(alloc, owner, proofs, c.root_steps.as_slice())?;
+    let mut earlier = c.root_steps.len() as u64;
     let mut sum: i128 = 0;
-    for (i, proof) in c.proofs.as_slice().iter().enumerate() {
+    for (i, proof) in proofs.iter().enumerate() {
         let number = i as u64 + 1;
-        let upper = upper_of_part(alloc, problem, start, proof, &mut scratch, earlier, number)?;
+        let upper = upper_of_part(
+            alloc,
+            problem,
+            start,
+            shares[i].as_slice(),
+            proof,
+            &mut scratch,
+            earlier,
+            number,
+        )?;
         sum += upper.min(1 << 100);
         earlier = earlier.saturating_add(proof.items.len() as u64);
     }
@@ -89,25 +116,75 @@ fn upper_of_part(
     alloc: Global,
     problem: &Problem,
     start: &Start,
+    steps: &[Step],
     proof: &Proof,
     scratch: &mut Residual,
     earlier: u64,
     number: u64,
 ) -> Result<i128, Reject>
-    requires valid { IsState (undecided problem.now.pairs start.now proof.now.part) }
+    requires valid { IsState (part_state problem.now start.now steps.now proof.now.part) }
     requires room { problem.now.pairs.n ≤ scratch.old.n }
     ensures ok { IfOk result (λ upper.
-        HasUpper (undecided problem.now.pairs start.now proof.now.part) proof.now.items upper) }
+        HasUpper (part_state problem.now start.now steps.now proof.now.part) proof.now.items upper) }
     ensures fault { (count : ℕ) → earlier ≡ as_count count → IfErr result (λ reject. IsItemFault
-        (undecided problem.now.pairs start.now proof.now.part) proof.now.items count number reject) }
+        (part_state problem.now start.now steps.now proof.now.part) proof.now.items count number reject) }
     ensures room { scratch.new.n ≡ scratch.old.n }
 {
     let part = proof.part.as_slice();
     let items = proof.items.as_slice();
-    match upper_of(alloc, &problem.pairs, start, part, items, scratch) {
+    let decisions = decisions_within(alloc, part, steps)?;
+    match upper_of(
+        alloc,
+        &problem.pairs,
+        start,
+        part,
+        decisions.as_slice(),
+        items,
+        scratch,
+    ) {
         Ok(upper) => Ok(upper),
         Err(fault) => Err(rejected(fault, earlier, number)),
     }
+}
+
+/// Whether the part, which rises, has the vertex.
+fn has(part: &[Vertex], v: Vertex) -> bool
+    requires { Rises part.now }
+    ensures { result ≡ is_in part.now v }
+{
+    is_member(part, v)
+}
+
+/// Appends what the step decides, if both its vertices are in the part.
+fn push_within(
+    decisions: &mut Vec<Decision>,
+    part: &[Vertex],
+    step: &Step,
+) -> Result<(), AllocError>
+    requires { Rises part.now }
+    ensures { OnOk result (decisions.new.items
+        ≡ decisions.old.items ++ decisions_within part.now (step.now ∷ [])) }
+{
+    if has(part, step.u) && has(part, step.v) {
+        decisions.push(step.decision())?;
+    }
+    Ok(())
+}
+
+/// What the steps decide within the part.
+fn decisions_within(
+    alloc: Global,
+    part: &[Vertex],
+    steps: &[Step],
+) -> Result<Vec<Decision>, AllocError>
+    requires { Rises part.now }
+    ensures { IfOk result (λ decisions. decisions.items ≡ decisions_within part.now steps.now) }
+{
+    let mut decisions = Vec::new(alloc);
+    for step in steps {
+        push_within(&mut decisions, part, step)?;
+    }
+    Ok(decisions)
 }
 
 /// A part's fault as a rejection.

@@ -1,5 +1,6 @@
 //! The conditions on the labels of a certificate: their number, their numbering, the rules and the
-//! stated value.
+//! stated value. Each pair is looked at once, in rising order, so the first that fails is the least.
+
 ghost use Rattle.std.specs.Prelude.{◌≡◌, ◌<◌, ◌≤◌, ◌↔◌, ℕ, IsTrue, IfErr, IfNone, IfOk, IfSome, OnOk, length, slice_index};
 ghost use Rattle.std.specs.Bool.{OnTrue};
 ghost use Rattle.clu_partition.specs.Closed.{IsClosed};

@@ -11,6 +11,7 @@ mod checker;
 mod labels;
 mod parts;
 mod reject;
+mod shares;
 mod tree;
 
 pub use checker::{Accepted, check};

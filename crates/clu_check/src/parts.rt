@@ -1,56 +1,44 @@
-//! The conditions on the parts of a certificate.
+//! The conditions on the parts of a certificate: lists of vertices that divide no group of the state after
+//! the root steps and leave no free pair of positive weight between them. So no partition of the class is
+//! worth more than its restrictions to the parts together, and each part has a proof of its own.
+//!
+//! A table has the number of each vertex's part, so a vertex is looked up once for each pair.
+
 ghost use Rattle.std.specs.Prelude.{◌≡◌, ◌≢◌, ◌<◌, ◌≤◌, ◌+◌, ◌⊎◌, ◌↔◌, [], ◌∷◌, ◌++◌, ℕ, List, All, Contains, IsTrue, IfErr, IfNone, IfOk, IfSome, OnOk, length, slice_index, map};
 ghost use Rattle.clu_partition.specs.Partition.{below};
-ghost use Rattle.clu_cert.specs.Valid.{whole, Rises, IsPart, AllParts, Cover};
+ghost use Rattle.clu_cert.specs.Valid.{whole, stepped, parts_of, Rises, IsPart, AllParts, Cover};
 ghost use Rattle.clu_check.specs.Rejected.{HaveRoot, HaveParts, IsFirstBadPart, IsUncovered, IsRejected};
-ghost use Rattle.clu_check.specs.Parts.{AreOwned, IsGiven, MayBePart, IsSettled, IsSettledWith};
+ghost use Rattle.clu_check.specs.Parts.{AreOwned, AreNumbered, IsGiven, MayBePart, IsSettled, IsSettledWith};
 
 use crate::Reject;
 use clu_cert::{Certificate, Proof};
 use clu_objective::Problem;
-use clu_partition::{Start, Vertex, all_vertices};
+use clu_partition::{Start, Vertex};
 use clu_state::{Rebuilt, Situation};
-use std::alloc::{AllocError, Global};
+use std::alloc::Global;
 
-/// Refuses parts that aren't parts of the problem's vertices, or leave a vertex out.
+/// Refuses parts that aren't parts of the problem's vertices, or leave a vertex out, in the state after
+/// the root steps. Answers the number of each vertex's part, from 1.
 pub(crate) fn check_parts(
     alloc: Global,
     problem: &Problem,
     start: &Start,
     c: &Certificate,
-) -> Result<(), Reject>
+    state: &Rebuilt,
+) -> Result<Vec<usize>, Reject>
     requires one_size { length start.now.group ≡ problem.now.pairs.n }
     requires root { HaveRoot problem.now start.now c.now }
-    ensures ok { OnOk result (HaveParts problem.now start.now c.now) }
+    requires state { state.now ≡ stepped (whole problem.now start.now) c.now.root_steps }
+    ensures ok { IfOk result (λ _. HaveParts problem.now start.now c.now) }
+    ensures numbered { IfOk result (λ owner. AreNumbered (parts_of c.now) owner.items) }
+    ensures size { IfOk result (λ owner. length owner.items ≡ problem.now.pairs.n) }
     ensures rejected { IfErr result (λ reject. IsRejected problem.now start.now c.now reject) }
 {
-    match fault_of_parts(alloc, problem, start, c.proofs.as_slice())? {
+    let mut owner = vec![in alloc; 0; start.n() as usize]?;
+    match first_fault(state, &mut owner, c.proofs.as_slice()) {
         Some(part) => Err(Reject::Parts { part }),
-        None => Ok(()),
+        None => Ok(owner),
     }
-}
-
-/// The number of the first part that is none, or one more than their number where a vertex is in
-/// none.
-fn fault_of_parts(
-    alloc: Global,
-    problem: &Problem,
-    start: &Start,
-    proofs: &[Proof],
-) -> Result<Option<u64>, AllocError>
-    requires { length start.now.group ≡ problem.now.pairs.n }
-    ensures right { IfOk result (λ fault. IfNone fault
-        (AllParts (whole problem.now start.now) [] (map (λ proof. proof.part) proofs.now)
-        × Cover (whole problem.now start.now) (map (λ proof. proof.part) proofs.now))) }
-    ensures fault { IfOk result (λ fault. IfSome fault (λ number.
-        IsFirstBadPart (whole problem.now start.now) (map (λ proof. proof.part) proofs.now) number
-        ⊎ IsUncovered (whole problem.now start.now) (map (λ proof. proof.part) proofs.now) number)) }
-{
-    let n = start.n();
-    let vertices = all_vertices(alloc, n)?;
-    let state = Rebuilt::new(alloc, &problem.pairs, start, vertices.as_slice())?;
-    let mut owner = vec![in alloc; 0; n as usize]?;
-    Ok(first_fault(&state, &mut owner, proofs))
 }
 
 /// The same where no vertex has a number in `owner` yet.
@@ -60,6 +48,8 @@ fn first_fault(state: &Rebuilt, owner: &mut [usize], proofs: &[Proof]) -> Option
     ensures right { IfNone result
         (AllParts state.now [] (map (λ proof. proof.part) proofs.now)
         × Cover state.now (map (λ proof. proof.part) proofs.now)) }
+    ensures numbered { IfNone result (AreNumbered (map (λ proof. proof.part) proofs.now) owner.new) }
+    ensures size { length owner.new ≡ length owner.old }
     ensures fault { IfSome result (λ number.
         IsFirstBadPart state.now (map (λ proof. proof.part) proofs.now) number
         ⊎ IsUncovered state.now (map (λ proof. proof.part) proofs.now) number) }

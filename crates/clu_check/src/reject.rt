@@ -1,3 +1,6 @@
+//! Why a certificate isn't valid: one case for each condition, in the order in which `check` tries them,
+//! with the place where the condition fails.
+
 ghost use Rattle.std.specs.Prelude.{◌≡◌};
 ghost use Rattle.clu_check.specs.declared.reject.Reject.TheVariants.{Memory};
 

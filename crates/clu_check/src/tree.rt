@@ -1,13 +1,19 @@
 //! Reading the items of a part's proof: whether they make a tree, and the greatest bound of its leaves.
+//!
+//! The items are the tree in preorder, so the open subtrees are told by one path of choices: each says
+//! whether its other subtree waits. One state goes along; it is built anew where a subtree ends, so what is
+//! kept grows with the depth of the tree and not with its size.
 
-ghost use Rattle.std.specs.Prelude.{◌≡◌, ◌≤◌, ◌<◌, ◌↔◌, ◌⊎◌, ◌∷◌, ◌≤ℤ◌, ℕ, ℤ, [], true, false, Some, None, length, slice_index, Contains, IfOk, OnOk, IfSome, IsNone, IsTrue, IsErrOf};
-ghost use Rattle.clu_state.specs.State.{State, IsState, IsFree, undecided};
+ghost use Rattle.std.specs.Prelude.{◌≡◌, ◌≤◌, ◌<◌, ◌↔◌, ◌⊎◌, ◌∷◌, ◌++◌, ◌≤ℤ◌, ℕ, ℤ, [], true, false, Some, None, length, slice_index, Contains, IfOk, OnOk, IfSome, IsNone, IsTrue, IsErrOf};
+ghost use Rattle.clu_state.specs.State.{State, IsState, IsFree, CanDecide, CanDecideAll, decided, undecided};
+ghost use Rattle.clu_reduce.specs.Reduction.{decision_of as decision_of_step};
 ghost use Rattle.clu_cert.specs.Upper.{HasUpper, FailsAt, IsBadStep, IsBadLeaf, EndsEarly, GoesOn};
-ghost use Rattle.clu_check.specs.Tree.{decision_of, after, CanGo, waiting, base_of, opened, IsReading, Takes, IsRefused};
+ghost use Rattle.clu_check.specs.Tree.{decision_of, after, CanGo, waiting, base_of, opened, IsReading, Takes, IsRefused, with_decisions};
 
 use clu_cert::Item;
 use clu_partition::{PairTable, Start, Vertex};
-use clu_rows::{Leaf, Residual, is_member, leaf_bound};
+use clu_reduce::{Step, holds, is_free};
+use clu_rows::{Leaf, Residual, leaf_bound};
 use clu_state::{Decision, Rebuilt, Situation};
 use std::alloc::{AllocError, Global};
 
@@ -38,6 +44,62 @@ impl From<AllocError> for TreeFault {
     fn from(_: AllocError) -> Self {
         TreeFault::Memory
     }
+}
+
+/// The greatest bound of a leaf of the tree that the items make from the part's state, which has these
+/// decisions.
+pub fn upper_of(
+    alloc: Global,
+    pairs: &PairTable,
+    start: &Start,
+    part: &[Vertex],
+    decisions: &[Decision],
+    items: &[Item],
+    scratch: &mut Residual,
+) -> Result<i128, TreeFault>
+    requires valid { IsState (with_decisions (undecided pairs.now start.now part.now) decisions.now) }
+    requires room { pairs.now.n ≤ scratch.old.n }
+    ensures upper { IfOk result (λ upper.
+        HasUpper (with_decisions (undecided pairs.now start.now part.now) decisions.now) items.now upper) }
+    ensures step { (number : ℕ) → IsErrOf result (TreeFault.Step number) → FailsAt IsBadStep
+        (with_decisions (undecided pairs.now start.now part.now) decisions.now) items.now number }
+    ensures leaf { (number : ℕ) → IsErrOf result (TreeFault.Leaf number) → FailsAt IsBadLeaf
+        (with_decisions (undecided pairs.now start.now part.now) decisions.now) items.now number }
+    ensures unfinished { IsErrOf result TreeFault.Unfinished
+        → EndsEarly (with_decisions (undecided pairs.now start.now part.now) decisions.now) items.now
+        ⊎ GoesOn (with_decisions (undecided pairs.now start.now part.now) decisions.now) items.now }
+    ensures room { scratch.new.n ≡ scratch.old.n }
+{
+    let mut reading = begun(alloc, pairs, start, part, decisions)?;
+    for (i, item) in items.iter().enumerate() {
+        if let Err(fault) = reading.take(alloc, item, scratch) {
+            return Err(fault.at(i as u64 + 1));
+        }
+    }
+    let Some(upper) = reading.upper() else {
+        return Err(TreeFault::Unfinished);
+    };
+    Ok(upper)
+}
+
+/// No item is read, and the decisions are made.
+fn begun<'p>(
+    alloc: Global,
+    pairs: &'p PairTable,
+    start: &'p Start,
+    part: &'p [Vertex],
+    decisions: &[Decision],
+) -> Result<Reading<'p>, AllocError>
+    requires { IsState (with_decisions (undecided pairs.now start.now part.now) decisions.now) }
+    ensures part { IfOk result (λ r. base_of r ≡ undecided pairs.now start.now part.now) }
+    ensures reading { IfOk result IsReading }
+    ensures whole { IfOk result (λ r. opened r
+        ≡ with_decisions (undecided pairs.now start.now part.now) decisions.now ∷ []) }
+    ensures greatest { IfOk result (λ r. r.greatest ≡ None) }
+{
+    let mut reading = Reading::new(alloc, pairs, start, part)?;
+    reading.follow_all(decisions)?;
+    Ok(reading)
 }
 
 /// Why an item can't be read.
@@ -94,20 +156,6 @@ impl Choice {
             Choice::Last(decision) => *decision,
         }
     }
-}
-
-/// Whether the two are members of different groups that are not apart.
-fn is_free<S: Situation>(state: &S, u: Vertex, v: Vertex) -> bool
-    ensures { IsTrue result ↔ IsFree (S.state state.now) u v }
-{
-    let members = state.members();
-    if !is_member(members, u) || !is_member(members, v) {
-        return false;
-    }
-    if state.group_of(u) == state.group_of(v) {
-        return false;
-    }
-    !state.is_apart(u, v)
 }
 
 /// The greater one of the bound and the greatest so far.
@@ -186,7 +234,9 @@ impl<'p> Reading<'p> {
         requires { IsState (undecided pairs.now start.now part.now) }
         ensures part { IfOk result (λ r. base_of r ≡ undecided pairs.now start.now part.now) }
         ensures reading { IfOk result IsReading }
-        ensures whole { IfOk result (λ r. opened r ≡ base_of r ∷ []) }
+        ensures some { IfOk result (λ r. r.is_open ≡ true) }
+        ensures state { IfOk result (λ r. r.state ≡ undecided pairs.now start.now part.now) }
+        ensures others { IfOk result (λ r. waiting (base_of r) [] r.path.items ≡ []) }
         ensures greatest { IfOk result (λ r. r.greatest ≡ None) }
     {
         Ok(Reading {
@@ -229,6 +279,62 @@ impl<'p> Reading<'p> {
             return Err(ItemFault::Step);
         }
         self.enter(u, v)?;
+        Ok(())
+    }
+
+    /// Goes on with a decision.
+    fn follow(&mut self, decision: &Decision) -> Result<(), AllocError>
+        requires reading { IsReading self.old }
+        requires some { self.old.is_open ≡ true }
+        requires can { CanDecide self.old.state decision.now }
+        ensures part { OnOk result (base_of self.new ≡ base_of self.old) }
+        ensures reading { OnOk result (IsReading self.new) }
+        ensures state { OnOk result (self.new.state ≡ decided self.old.state decision.now) }
+        ensures others { OnOk result (waiting (base_of self.new) [] self.new.path.items
+            ≡ waiting (base_of self.old) [] self.old.path.items) }
+        ensures some { OnOk result (self.new.is_open ≡ self.old.is_open) }
+        ensures greatest { OnOk result (self.new.greatest ≡ self.old.greatest) }
+    {
+        self.path.push(Choice::Last(*decision))?;
+        self.state.decide(*decision)?;
+        Ok(())
+    }
+
+    /// Goes on with each decision.
+    fn follow_all(&mut self, decisions: &[Decision]) -> Result<(), AllocError>
+        requires reading { IsReading self.old }
+        requires some { self.old.is_open ≡ true }
+        requires can { CanDecideAll self.old.state decisions.now }
+        ensures part { OnOk result (base_of self.new ≡ base_of self.old) }
+        ensures reading { OnOk result (IsReading self.new) }
+        ensures state { OnOk result (self.new.state ≡ with_decisions self.old.state decisions.now) }
+        ensures others { OnOk result (waiting (base_of self.new) [] self.new.path.items
+            ≡ waiting (base_of self.old) [] self.old.path.items) }
+        ensures some { OnOk result (self.new.is_open ≡ self.old.is_open) }
+        ensures greatest { OnOk result (self.new.greatest ≡ self.old.greatest) }
+    {
+        for decision in decisions {
+            self.follow(decision)?;
+        }
+        Ok(())
+    }
+
+    /// Reads a reduction.
+    fn reduce(&mut self, step: &Step) -> Result<(), ItemFault>
+        requires reading { IsReading self.old }
+        requires some { self.old.is_open ≡ true }
+        ensures part { OnOk result (base_of self.new ≡ base_of self.old) }
+        ensures reading { OnOk result (IsReading self.new) }
+        ensures read { OnOk result (Takes self.old (Item.Reduce step.now) self.new) }
+        ensures step { IsErrOf result ItemFault.Step → IsRefused IsBadStep self.old (Item.Reduce step.now) }
+        ensures leaf { IsErrOf result ItemFault.Leaf → IsRefused IsBadLeaf self.old (Item.Reduce step.now) }
+        ensures whole { IsErrOf result ItemFault.Whole → opened self.old ≡ [] }
+    {
+        if !holds(&self.state, step) {
+            return Err(ItemFault::Step);
+        }
+        let decision = step.decision();
+        self.follow(&decision)?;
         Ok(())
     }
 
@@ -286,8 +392,7 @@ impl<'p> Reading<'p> {
         }
         match item {
             Item::Branch(u, v) => self.branch(*u, *v),
-            // no reduction holds yet
-            Item::Reduce(_) => Err(ItemFault::Step),
+            Item::Reduce(step) => self.reduce(step),
             Item::Leaf(leaf) => self.leaf(alloc, leaf, scratch),
         }
     }
@@ -300,40 +405,3 @@ impl<'p> Reading<'p> {
         if self.is_open { None } else { self.greatest }
     }
 }
-
-/// The greatest bound of a leaf of the tree that the items make from the part's state.
-pub fn upper_of(
-    alloc: Global,
-    pairs: &PairTable,
-    start: &Start,
-    part: &[Vertex],
-    items: &[Item],
-    scratch: &mut Residual,
-) -> Result<i128, TreeFault>
-    requires valid { IsState (undecided pairs.now start.now part.now) }
-    requires room { pairs.now.n ≤ scratch.old.n }
-    ensures upper { IfOk result (λ upper.
-        HasUpper (undecided pairs.now start.now part.now) items.now upper) }
-    ensures step { (number : ℕ) → IsErrOf result (TreeFault.Step number)
-        → FailsAt IsBadStep (undecided pairs.now start.now part.now) items.now number }
-    ensures leaf { (number : ℕ) → IsErrOf result (TreeFault.Leaf number)
-        → FailsAt IsBadLeaf (undecided pairs.now start.now part.now) items.now number }
-    ensures unfinished { IsErrOf result TreeFault.Unfinished
-        → EndsEarly (undecided pairs.now start.now part.now) items.now
-        ⊎ GoesOn (undecided pairs.now start.now part.now) items.now }
-    ensures room { scratch.new.n ≡ scratch.old.n }
-{
-    let mut reading = Reading::new(alloc, pairs, start, part)?;
-    for (i, item) in items.iter().enumerate() {
-        if let Err(fault) = reading.take(alloc, item, scratch) {
-            return Err(fault.at(i as u64 + 1));
-        }
-    }
-    let Some(upper) = reading.upper() else {
-        return Err(TreeFault::Unfinished);
-    };
-    Ok(upper)
-}
-
-#[cfg(test)]
-mod tests;

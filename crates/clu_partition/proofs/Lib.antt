@@ -17,3 +17,8 @@ pub mod PairWalk
 pub mod PlaceLaws
 pub mod SearchLaws
 pub mod PartLaws
+pub mod TieLaws
+pub mod PairMerges
+pub mod PairSetLaws
+pub mod StartLaws
+pub mod Membership

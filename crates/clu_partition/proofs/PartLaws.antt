@@ -9,7 +9,7 @@ use Rattle.clu_partition.proofs.SumLaws.{Each, Among, Rising, total_add, total_c
 use Rattle.clu_partition.proofs.Regroup.{filter_total}
 
 -- ---- lists that rise
-not_before : (x y : ℕ) (ys : List ℕ) → Each (λ z. y < z) ys → Among x (y ∷ ys) → y ≤ x
+pub not_before : (x y : ℕ) (ys : List ℕ) → Each (λ z. y < z) ys → Among x (y ∷ ys) → y ≤ x
 not_before x y ys up m = ⊎_elim (λ e. omega (arith, e)) (λ n. let l = below_later x y ys up n in omega (arith, l)) m
 
 -- an element of a list that rises is its first one or among the rest
@@ -30,7 +30,7 @@ same_rising (x ∷ xs) (y ∷ ys) p q f g =
     ap (λ z. z ∷ xs) e ∙ ap (λ zs. y ∷ zs) rest
 
 -- ---- pairs within the parts
-turned : (a b : ℕ) (z : ℤ) → only_if (a == b) z ≡ only_if (b == a) z
+pub turned : (a b : ℕ) (z : ℤ) → only_if (a == b) z ≡ only_if (b == a) z
 turned a b z = ⊎_elim
     (λ e. ap (λ t. only_if t z) (eq-eqb a b e) ∙ sym (ap (λ t. only_if t z) (eq-eqb b a (sym e))))
     (λ n. ap (λ t. only_if t z) (ne_eqb a b n) ∙ sym (ap (λ t. only_if t z) (ne_eqb b a (λ e. n (sym e)))))

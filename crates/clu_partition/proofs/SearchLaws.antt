@@ -10,6 +10,16 @@ use Rattle.std.proofs.lemmas.Bool.{cases_order, cases_lt, cases_eq, eq-eqb, ne_e
 use Rattle.clu_partition.specs.Closed.{Closed, IsClosed, Precedes, AreRising, joins}
 use Rattle.clu_partition.proofs.JoinLaws.{joins_listed, joins_same, joins_turn}
 
+-- ---- the order of pairs
+pub irreflexive : (p : ℕ × ℕ) → Precedes p p → ⊥
+irreflexive p h = ⊎_elim (λ i. omega (arith, i)) (λ i. let j = i.1 in omega (arith, j)) h
+
+pub asymmetric : (p q : ℕ × ℕ) → Precedes p q → Precedes q p → ⊥
+asymmetric p q h k = ⊎_elim
+    (λ i. ⊎_elim (λ j. omega (arith, i, j)) (λ j. let e = j.0 in omega (arith, i, e)) k)
+    (λ i. let e = i.0 in let l = i.1 in ⊎_elim (λ j. omega (arith, j, e)) (λ j. let r = j.1 in omega (arith, l, r)) k)
+    h
+
 abbrev pub pair_order : ℕ × ℕ → ℕ × ℕ → Ordering
 pair_order y x = ordering_then (nat_cmp y.0 x.0) (nat_cmp y.1 x.1)
 
@@ -66,7 +76,7 @@ rank_rises x p q h = ⊎_elim
     omega (arith, e, s))
     (trichotomy p x)
 
-rising_at : (ps : List (ℕ × ℕ)) → AreRising ps → (i j : ℕ) (d : ℕ × ℕ) → i < j → j < length ps → Precedes (get_or ps i d) (get_or ps j d)
+pub rising_at : (ps : List (ℕ × ℕ)) → AreRising ps → (i j : ℕ) (d : ℕ × ℕ) → i < j → j < length ps → Precedes (get_or ps i d) (get_or ps j d)
 rising_at [] up i j d l at = absurd (omega arith)
 rising_at (p ∷ ps) up i zero d l at = absurd (omega arith)
 rising_at (p ∷ ps) up zero (suc j) d l at = up.0 j d (omega arith)

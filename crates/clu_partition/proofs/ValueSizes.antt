@@ -3,7 +3,7 @@ use Rattle.std.proofs.Common.{◌≤◌, ℕ, ℤ, pos, ◌≤ℤ◌, List, [], 
 use Rattle.std.proofs.lemmas.Int.{ints}
 use Rattle.clu_partition.specs.Sums.{total, pair_total, only_if}
 
-only_size : (b : Bool) (z : ℤ) → unsigned_abs (only_if b z) ≤ unsigned_abs z
+pub only_size : (b : Bool) (z : ℤ) → unsigned_abs (only_if b z) ≤ unsigned_abs z
 only_size true z = omega arith
 only_size false z = omega (arith, ints)
 

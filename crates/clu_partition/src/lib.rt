@@ -9,16 +9,23 @@
 #![tactic(auto)]
 
 mod names;
+mod pair_set;
 mod partition;
+mod residual;
 mod seq;
 mod start;
 mod sums;
 mod table;
+mod ties;
 mod vertex;
 
 pub use names::{Name, Names};
+pub use pair_set::PairSet;
 pub use partition::Partition;
+pub use residual::Residual;
 pub use seq::Seq;
 pub use start::Start;
+pub use sums::pair_sum;
 pub use table::{PairTable, place};
-pub use vertex::{Vertex, all_vertices};
+pub use ties::TieError;
+pub use vertex::{Vertex, all_vertices, is_member};

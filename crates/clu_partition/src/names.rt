@@ -1,3 +1,5 @@
+//! Names of vertices, and the trait by which rules and reports ask for them: a graph's are numbers, a network's are texts.
+//! Bytes name one vertex at most, and each vertex is named by the bytes of its name, by laws of the trait.
 ghost use Rattle.std.specs.Prelude.{◌≡◌, ◌≤◌, ◌<◌, ℕ, List, length, slice_get, Some, MatchOption};
 ghost use Rattle.clu_partition.specs.Names.{name_bytes, IsWithin, HasDigits};
 

@@ -1,3 +1,5 @@
+//! Partitions of vertices as labels numbered from 0 by first appearance (restricted growth strings), so that two lists of
+//! labels with the same blocks are one partition, and its value: the weight inside blocks (Grötschel and Wakabayashi 1989).
 ghost use Rattle.std.specs.Prelude.{◌≡◌, ◌≤◌, ◌≤ℤ◌, ◌<◌, ◌^◌, ◌==◌, [], ℕ, pos, length, All, IfOk, replicate, slice_index, unsigned_abs};
 ghost use Rattle.clu_partition.specs.Pairs.{total_of, weight_of};
 ghost use Rattle.clu_partition.specs.Sums.{only_if};
@@ -178,34 +180,43 @@ mod tests {
     use super::*;
     use std::test::Fail;
 
-    #[test]
-    fn labels_are_numbered_by_first_appearance(rt: HostRuntime) -> Result<(), Fail> {
-        let alloc = rt.alloc();
-        let partition = Partition::from_labels(alloc, &[7, 7, 3, 7])?;
-        assert_eq!(rt; partition.labels(), [0, 0, 1, 0].as_slice());
-        assert_eq!(rt; partition.block_count(), 2);
-        let blocks = partition.blocks(alloc)?;
-        assert_eq!(rt; blocks.len(), 2);
-        let first = [Vertex(0), Vertex(1), Vertex(3)];
-        assert_eq!(rt; blocks[0].as_slice(), first.as_slice());
-        assert_eq!(rt; blocks[1].as_slice(), [Vertex(2)].as_slice());
-        Ok(())
+    fn are_numbered(partition: &Partition) -> bool {
+        partition.labels() == [0, 0, 1, 0].as_slice() && partition.block_count() == 2
+    }
+
+    fn are_listed(blocks: &[Seq<Vertex>]) -> bool {
+        blocks.len() == 2
+            && blocks[0].as_slice() == [Vertex(0), Vertex(1), Vertex(3)].as_slice()
+            && blocks[1].as_slice() == [Vertex(2)].as_slice()
     }
 
     #[test]
-    fn pairs_inside_blocks_make_the_value(rt: HostRuntime) -> Result<(), Fail> {
-        let alloc = rt.alloc();
-        let mut pairs = PairTable::new(alloc, 4)?;
+    fn labels_are_numbered_by_first_appearance(rt: HostRuntime) -> Result<(), Fail> {
+        let partition = Partition::from_labels(rt.alloc(), &[7, 7, 3, 7])?;
+        assert!(rt; are_numbered(&partition));
+        assert!(rt; are_listed(&partition.blocks(rt.alloc())?));
+        Ok(())
+    }
+
+    fn weigh(pairs: &mut PairTable)
+        requires { pairs.old.n ≡ 4 }
+        ensures { pairs.new.n ≡ 4 }
+    {
         pairs.set(Vertex(0), Vertex(1), 3);
         pairs.set(Vertex(0), Vertex(2), -5);
         pairs.set(Vertex(0), Vertex(3), 2);
         pairs.set(Vertex(1), Vertex(2), 70);
         pairs.set(Vertex(1), Vertex(3), -9);
-        let partition = Partition::from_labels(alloc, &[0, 0, 1, 0])?;
-        assert_eq!(rt; partition.value(&pairs), -4);
-        let members = [Vertex(3), Vertex(1), Vertex(2)];
-        let halves = Partition::from_labels(alloc, &[0, 1, 1])?;
-        assert_eq!(rt; halves.value_on(&members, &pairs), 70);
+    }
+
+    #[test]
+    fn pairs_inside_blocks_make_the_value(rt: HostRuntime) -> Result<(), Fail> {
+        let mut pairs = PairTable::new(rt.alloc(), 4)?;
+        weigh(&mut pairs);
+        let partition = Partition::from_labels(rt.alloc(), &[0, 0, 1, 0])?;
+        assert!(rt; partition.value(&pairs) == -4);
+        let halves = Partition::from_labels(rt.alloc(), &[0, 1, 1])?;
+        assert!(rt; halves.value_on(&[Vertex(3), Vertex(1), Vertex(2)], &pairs) == 70);
         Ok(())
     }
 }

@@ -1,3 +1,4 @@
+//! A vector that contracts see as the list of its items: two values with the same items are equal, whatever their capacity.
 ghost use Rattle.std.specs.Prelude.{◌≡◌, ◌++◌, [], ◌∷◌, length, IfOk, OnOk, OnErr};
 
 use std::alloc::{AllocError, Global};

@@ -1,6 +1,10 @@
+//! Closed rules: groups that required pairs tie, and pairs of groups that are kept apart. What chains imply is made once, so
+//! that each later question of a pair is one look at its groups.
 ghost use Rattle.std.specs.Prelude.{◌≡◌, ◌<◌, ◌≤◌, ◌≢◌, ◌↔◌, ℕ, All, IfOk, IsTrue, length, slice_index};
 ghost use Rattle.clu_partition.specs.Closed.{joins, IsPermitted};
 
+use crate::pair_set::rising_pairs;
+use crate::ties::{TieError, alone, first_tied, lead_all, tie_all};
 use crate::{Partition, Vertex};
 use std::alloc::{AllocError, Global};
 use std::marker::Model;
@@ -26,21 +30,52 @@ impl Model for Start {
 
 impl Start {
     ghost use Rattle.clu_partition.specs.Closed.{IsClosed, IsOpen};
+    ghost use Rattle.clu_partition.specs.Ties.{AreBelow, Closes};
 
     /// The rules that require and forbid nothing, for n vertices, at most 1,000.
-    #[tactic(auto, using(crate::proofs::Ranges::below_more))]
     pub fn none(alloc: Global, n: u32) -> Result<Start, AllocError>
         requires { n ≤ 1000 }
         ensures { IfOk result (λ s. IsOpen n s) }
     {
-        let mut group = Vec::with_capacity(alloc, n as usize)?;
-        for v in 0..n {
-            group.push(Vertex(v))?;
-        }
+        let group = alone(alloc, n)?;
         Ok(Start {
             group,
             forbidden: Vec::new(alloc),
         })
+    }
+
+    /// The rules that required and forbidden pairs of n vertices make, in time linear in the pairs and in n * n. Where no
+    /// partition obeys all pairs, the error names the least forbidden pair that a chain of required pairs ties.
+    pub fn tied(
+        alloc: Global,
+        n: u32,
+        required: &[(Vertex, Vertex)],
+        forbidden: &[(Vertex, Vertex)],
+    ) -> Result<Start, TieError>
+        requires small { n ≤ 1000 }
+        requires required { AreBelow n required.now }
+        requires forbidden { AreBelow n forbidden.now }
+        ensures { Closes n required.now forbidden.now result }
+    {
+        let Ok(group) = tie_all(alloc, n, required) else {
+            return Err(TieError::Memory);
+        };
+        let Ok(listed) = rising_pairs(alloc, n, forbidden) else {
+            return Err(TieError::Memory);
+        };
+        if let Some(pair) = first_tied(&group, &listed) {
+            return Err(TieError::Contradiction {
+                u: pair.0,
+                v: pair.1,
+            });
+        }
+        let Ok(led) = lead_all(alloc, &group, &listed) else {
+            return Err(TieError::Memory);
+        };
+        let Ok(forbidden) = rising_pairs(alloc, n, &led) else {
+            return Err(TieError::Memory);
+        };
+        Ok(Start { group, forbidden })
     }
 
     /// The number of vertices.
@@ -125,16 +160,57 @@ mod tests {
     use super::*;
     use std::test::Fail;
 
+    fn bind_nothing(start: &Start) -> bool {
+        start.n() == 3
+            && start.group(Vertex(2)) == Vertex(2)
+            && start.forbidden().is_empty()
+            && !start.apart(Vertex(0), Vertex(1))
+    }
+
     #[test]
     fn rules_that_bind_nothing_permit_all(rt: HostRuntime) -> Result<(), Fail> {
-        let alloc = rt.alloc();
-        let start = Start::none(alloc, 3)?;
-        assert_eq!(rt; start.n(), 3);
-        assert!(rt; start.group(Vertex(2)) == Vertex(2));
-        assert_eq!(rt; start.forbidden().len(), 0);
-        assert!(rt; !start.apart(Vertex(0), Vertex(1)));
-        let partition = Partition::from_labels(alloc, &[0, 1, 0])?;
+        let start = Start::none(rt.alloc(), 3)?;
+        assert!(rt; bind_nothing(&start));
+        let partition = Partition::from_labels(rt.alloc(), &[0, 1, 0])?;
         assert!(rt; start.permits(&partition));
         Ok(())
+    }
+
+    fn are_grouped(start: &Start) -> bool {
+        start.n() == 6
+            && start.group(Vertex(4)) == Vertex(2)
+            && start.group(Vertex(5)) == Vertex(5)
+            && start.forbidden().len() == 2
+            && start.apart(Vertex(1), Vertex(2))
+            && !start.apart(Vertex(0), Vertex(2))
+    }
+
+    #[test]
+    fn pairs_make_groups(rt: HostRuntime) {
+        let required = [
+            (Vertex(4), Vertex(2)),
+            (Vertex(2), Vertex(3)),
+            (Vertex(5), Vertex(5)),
+        ];
+        let forbidden = [
+            (Vertex(3), Vertex(1)),
+            (Vertex(1), Vertex(4)),
+            (Vertex(0), Vertex(1)),
+        ];
+        let start = Start::tied(rt.alloc(), 6, &required, &forbidden);
+        assert!(rt; start.is_ok_and(|start| are_grouped(&start)));
+    }
+
+    #[test]
+    fn the_least_contradiction_is_named(rt: HostRuntime) {
+        let required = [(Vertex(4), Vertex(2)), (Vertex(2), Vertex(3))];
+        let forbidden = [
+            (Vertex(4), Vertex(3)),
+            (Vertex(0), Vertex(1)),
+            (Vertex(4), Vertex(2)),
+        ];
+        let refused = Start::tied(rt.alloc(), 6, &required, &forbidden).err();
+        let (u, v) = (Vertex(2), Vertex(4));
+        assert!(rt; refused == Some(TieError::Contradiction { u, v }));
     }
 }

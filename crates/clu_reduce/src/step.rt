@@ -1,3 +1,5 @@
+//! Reductions: the rule and the two groups that it decides. Data reduction for weighted cluster
+//! editing, in the manner of Böcker, Briesemeister, Bui and Truss (2009).
 ghost use Rattle.std.specs.Prelude.{◌≡◌};
 ghost use Rattle.clu_reduce.specs.Reduction.{decision_of};
 

@@ -15,8 +15,8 @@ use Rattle.clu_partition.proofs.SumLaws.{Each, Rising, total_cong_on, scale_le, 
 use Rattle.clu_partition.proofs.Regroup.{filter_total, each_filter, leaders_lead, leaders_rising}
 use Rattle.clu_partition.proofs.TableLaws.{weight_sym}
 use Rattle.clu_state.specs.State.{State, IsState, InClass, leader, are_apart, group_weight, group_leaders, fixed_value}
-use Rattle.clu_state.proofs.Bridge.{state_are_groups, leader_among, each_from, below_all}
-use Rattle.clu_state.proofs.Bounds.{between_small, all_small, fixed_size}
+use Rattle.clu_state.proofs.Bridge.{state_are_groups, each_from, below_all}
+use Rattle.clu_state.proofs.Bounds.{all_small, fixed_size, weight_small}
 use Rattle.clu_rows.specs.Rows.{TwoSet, names, priced, row_limit, excess, floor_div, leaf_bound_of}
 use Rattle.clu_rows.specs.Prices.{uncovered, uncovered_with, uncovered_all}
 use Rattle.clu_rows.specs.Faults.{AreRows, IsRow, worth_of}
@@ -30,12 +30,6 @@ use Rattle.clu_partition.proofs.ListLaws.{each_and}
 use Rattle.clu_state.proofs.GroupLaws.{lead_weight}
 
 -- ---- one pair
-pub weight_small : (s : State) → IsState s → (a b : ℕ) → Contains s.members a → Contains s.members b → leader s a ≢ leader s b → unsigned_abs (group_weight s a b) ≤ 2 ^ 88
-weight_small s i a b ca cb d =
-    let h = between_small (weight_of s.pairs) (weight_sym s.pairs) (leader s) s.members s.pairs.n (state_are_groups s i) (below_all s i) (leader s a) (leader s b) (leader_among s i a ca) (leader_among s i b cb) d in
-    let t = i.total in
-    omega (arith, ints, h, t)
-
 scaled : (den : ℕ) (w : ℤ) → den ≤ 2 ^ 32 → unsigned_abs w ≤ 2 ^ 88 → unsigned_abs (pos den *ℤ w) ≤ 2 ^ 120
 scaled den w l h =
     let a = abs_scale den w in

@@ -1,11 +1,6 @@
 -- When a row is one that a leaf may have.
-use Rattle.std.proofs.Common.{◌≡◌, ◌≢◌, ◌⊎◌, inl, inr, ⊎_elim, ℕ, ◌<◌, ◌≤◌, ◌+◌, ◌*◌, ◌^◌, ◌-◌, ◌/◌, pos, ◌≤ℤ◌, List, [], ◌∷◌, ◌++◌, length, take, drop, get_or, slice_index, Bool, true, false, ◌==◌, refl, sym, ap, ◌∙◌, subst, arith, zero, suc, All, Contains, nat_cmp, IsTrue, Result, le-div_iff_mul-le, div-lt_iff_lt-mul, length-take, get_or-take, pow-suc, one-mul, length-append, append-nil}
-use Rattle.std.specs.Prelude.{Ok, Err, is_ok}
-use Rattle.std.specs.List.Sorted.{IsBinarySearchResult}
-use Rattle.std.proofs.lemmas.List.Sorted.{searched}
+use Rattle.std.proofs.Common.{◌≡◌, ◌≢◌, ℕ, ◌<◌, ◌≤◌, ◌+◌, ◌*◌, ◌^◌, ◌-◌, ◌/◌, pos, ◌≤ℤ◌, List, [], ◌∷◌, ◌++◌, length, take, drop, get_or, Bool, true, false, ◌==◌, refl, sym, ap, ◌∙◌, subst, arith, zero, suc, All, Contains, le-div_iff_mul-le, div-lt_iff_lt-mul, length-take, get_or-take, pow-suc, one-mul, length-append, append-nil}
 use Rattle.std.proofs.lemmas.Int.{ints}
-use Rattle.std.proofs.lemmas.Grind.{get_or_default_zero}
-use Rattle.std.proofs.lemmas.Bool.{cases_eq, false≢true}
 use Rattle.std.proofs.lemmas.List.Elements.{All-take, All-more, All-head, All-tail, All-append, All-cons, All-nil}
 use Rattle.std.proofs.lemmas.List.Sums.{sum_by-take-le, sum_by_more}
 use Rattle.std.proofs.lemmas.List.{drop_more}
@@ -16,11 +11,12 @@ use Rattle.clu_partition.specs.Groups.{leaders}
 use Rattle.clu_partition.proofs.SumLaws.{total_le, total_cong_on, total_swap, pick_one, total_ones}
 use Rattle.clu_partition.proofs.Regroup.{filter_total, leaders_rising}
 use Rattle.clu_state.specs.State.{State, IsState, leader, group_leaders}
-use Rattle.clu_state.proofs.Bridge.{state_are_groups, leader_among, below_all}
+use Rattle.clu_state.proofs.Bridge.{state_are_groups, leader_among}
 use Rattle.clu_rows.specs.Rows.{TwoSet, names}
-use Rattle.clu_rows.specs.Faults.{NamesOnce, IsRow, IsFirstFault, worth_of}
+use Rattle.clu_partition.specs.Groups.{NamesOnce}
+use Rattle.clu_rows.specs.Faults.{IsRow, IsFirstFault, worth_of}
 use Rattle.clu_rows.proofs.HitLaws.{each_all, once, once_from}
-use Rattle.clu_partition.proofs.ListLaws.{every, few_rising}
+use Rattle.clu_partition.proofs.ListLaws.{every}
 
 -- ---- what holds of each of a list
 pub all_next : (P : ℕ → Type 0) (i v : ℕ) (xs : List ℕ) → i < length xs → v ≡ get_or xs i v → All P (take i xs) → P v → All P (take (i + 1) xs)
@@ -39,29 +35,6 @@ all_left P (x ∷ xs) ys a = All-cons P x xs (All-head P x (xs ++ ys) a) (all_le
 pub all_right : (P : ℕ → Type 0) (xs ys : List ℕ) → All P (xs ++ ys) → All P ys
 all_right P [] ys a = a
 all_right P (x ∷ xs) ys a = all_right P xs ys (All-tail P x (xs ++ ys) a)
-
--- ---- members
-no_less : (members : List ℕ) → ((i j : ℕ) → i < j → j < length members → slice_index members i < slice_index members j) → (i j : ℕ) → i ≤ j → j < length members → get_or members i 0 ≤ get_or members j 0
-no_less members up i j le l = ⊎_elim (λ e. omega (arith, ap (λ k. get_or members k 0) e)) (λ n. omega (arith, up i j (omega (arith, le, n)) l)) (cases_eq i j)
-
-side : (k i : ℕ) → (k < i) ⊎ (i ≤ k)
-side k zero = inr (omega arith)
-side zero (suc i) = inl (omega arith)
-side (suc k) (suc i) = ⊎_elim (λ l. inl (omega (arith, l))) (λ l. inr (omega (arith, l))) (side k i)
-
-pub is_found : (members : List ℕ) (v : ℕ) (r : Result ℕ ℕ) → ((i j : ℕ) → i < j → j < length members → slice_index members i < slice_index members j) → IsBinarySearchResult (λ y. nat_cmp y v) members r →
-    (IsTrue (is_ok r) → Contains members v) × (Contains members v → IsTrue (is_ok r))
-is_found members v (Ok i) up h =
-    let f = searched members v (Ok i) h (no_less members up) in
-    ((λ _. (i, f.0, get_or_default_zero members i v f.0 ∙ f.1)), λ _. refl)
-is_found members v (Err i) up h =
-    let f = searched members v (Err i) h (no_less members up) in
-    ((λ e. absurd (false≢true e)), λ c. absurd (no f c))
-  where
-    no : (i ≤ length members) × ((k : ℕ) → k < i → get_or members k 0 < v) × ((k : ℕ) → i ≤ k → k < length members → v < get_or members k 0) → Contains members v → ⊥
-    no f c =
-        let e : get_or members c.0 0 ≡ v = sym (get_or_default_zero members c.0 v c.1) ∙ c.2 in
-        ⊎_elim (λ l. omega (arith, f.1 c.0 l, e)) (λ l. omega (arith, f.2 c.0 l c.1, e)) (side c.0 i)
 
 -- ---- names
 -- no two vertices of the two lists name one group, where those of the second don't, none of the first names one of the second's, and so on
@@ -112,12 +85,6 @@ few_names s i vs m o =
     omega (arith, ints, a, b, c, d, e)
 
 -- ---- rows
-pub few_members : (s : State) → IsState s → length s.members ≤ 1000
-few_members s i =
-    let h = few_rising s.members s.pairs.n (state_are_groups s i).rising (below_all s i) in
-    let k = i.small in
-    omega (arith, h, k)
-
 pub row_holds : (s : State) (r : TwoSet) → 0 < length r.s → 0 < length r.t → 0 < r.y → All (Contains s.members) r.s → All (Contains s.members) r.t → (NamesOnce (leader s) [] → NamesOnce (leader s) (r.t ++ [])) → (NamesOnce (leader s) r.t → NamesOnce (leader s) (r.s ++ r.t)) → IsRow s r
 row_holds s r a b y m n t o = record {
   first = a;

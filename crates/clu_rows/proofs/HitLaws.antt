@@ -9,7 +9,7 @@ use Rattle.std.proofs.Common.{All}
 use Rattle.std.proofs.lemmas.List.Elements.{All-contains}
 use Rattle.clu_state.proofs.Bridge.{each_from}
 use Rattle.clu_rows.specs.Prices.{hit}
-use Rattle.clu_rows.specs.Faults.{NamesOnce}
+use Rattle.clu_partition.specs.Groups.{NamesOnce}
 use Rattle.clu_partition.proofs.BoolLaws.{not_both}
 use Rattle.clu_partition.proofs.PairLaws.{pair_split}
 use Rattle.clu_partition.proofs.Regroup.{only_if_total}

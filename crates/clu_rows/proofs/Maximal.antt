@@ -8,16 +8,15 @@ use Rattle.clu_rows.specs.Rows.{TwoSet}
 use Rattle.clu_partition.specs.Pairs.{Pairs, weight_of, with_weight}
 use Rattle.clu_partition.proofs.SumLaws.{Among}
 use Rattle.clu_partition.proofs.TableLaws.{weight_sym, set_same, set_other}
-use Rattle.clu_partition.proofs.Regroup.{leaders_rising, each_filter, between_sym}
+use Rattle.clu_partition.proofs.Regroup.{between_sym}
 use Rattle.clu_state.specs.State.{State, IsState, leader, are_apart, kept_apart, group_leaders, group_weight}
-use Rattle.clu_state.proofs.Bridge.{leader_among, contains_from, state_are_groups, below_all}
+use Rattle.clu_state.proofs.Bridge.{leader_among, contains_from}
 use Rattle.clu_partition.proofs.JoinLaws.{joins_turn}
 use Rattle.std.proofs.Common.{◌*◌, length-set}
 use Rattle.clu_rows.specs.Packing.{CanApply, IsMaximal}
 use Rattle.clu_rows.specs.Packing.IsPacking.{nothing}
 use Rattle.clu_rows.specs.Table.{Packed, Stuck, Settled}
 use Rattle.clu_rows.proofs.Steps.{stuck_turn}
-use Rattle.clu_partition.proofs.ListLaws.{few_rising}
 use Rattle.clu_partition.proofs.PairLaws.{one_less}
 
 AllSettled : State → List ℕ → Pairs → Type 0
@@ -75,14 +74,6 @@ maximal s groups left rows p h = λ a b c t can.
     (shown (are_apart s (slice_index groups i.at') (slice_index groups j.at')) _ _ (p.agrees i.at' j.at' i.below j.below ij) can'.first_free can'.first)
     (shown (are_apart s (slice_index groups i.at') (slice_index groups k.at')) _ _ (p.agrees i.at' k.at' i.below k.below ik) can'.second_free can'.second)
     (opposed (are_apart s (slice_index groups j.at') (slice_index groups k.at')) _ _ (p.agrees j.at' k.at' j.below k.below jk) can'.third)
-
--- ---- how many groups
-pub few_groups : (s : State) (groups : List ℕ) → IsState s → groups ≡ group_leaders s → length groups ≤ 1000
-few_groups s groups i e =
-    let h = few_rising (group_leaders s) s.pairs.n (leaders_rising (leader s) s.members (state_are_groups s i)) (each_filter (λ v. v < s.pairs.n) _ s.members (below_all s i)) in
-    let k = ap length e in
-    let l = i.small in
-    omega (arith, h, k, l)
 
 -- ---- the table before the first triangle
 pub first_table : (s : State) (groups : List ℕ) (left : Pairs) → IsState s → groups ≡ group_leaders s → left.n ≡ length groups →

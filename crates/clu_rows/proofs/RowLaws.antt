@@ -14,7 +14,8 @@ use Rattle.clu_partition.proofs.TableLaws.{weight_sym, weight_same}
 use Rattle.clu_state.specs.State.{State, leader}
 use Rattle.clu_rows.specs.Rows.{TwoSet, coefficient, priced, names, sign, row_limit}
 use Rattle.clu_rows.specs.Prices.{hit}
-use Rattle.clu_rows.specs.Faults.{NamesOnce, IsRow, AreRows, worth_of}
+use Rattle.clu_partition.specs.Groups.{NamesOnce}
+use Rattle.clu_rows.specs.Faults.{IsRow, AreRows, worth_of}
 use Rattle.clu_rows.proofs.Adding.{front_small, part_small, part_all, hits_all, pairs_neg}
 use Rattle.clu_rows.proofs.HitLaws.{row_adds, once_from, once_parts, once_apart}
 use Rattle.clu_rows.proofs.Sizes.{sign_small, abs_scale}

@@ -1,12 +1,8 @@
 -- The leaves that prove a bound, and the faults of the others.
-use Rattle.std.specs.Prelude.{◌≢◌, ℕ, ◌≤◌, ◌<◌, ◌*◌, ◌+◌, ◌^◌, List, [], ◌∷◌, ◌++◌, All, Contains, length, sum_by, take}
+use Rattle.std.specs.Prelude.{ℕ, ◌≤◌, ◌<◌, ◌*◌, ◌+◌, ◌^◌, List, ◌++◌, All, Contains, length, sum_by, take}
+use Rattle.clu_partition.specs.Groups.{NamesOnce}
 use Rattle.clu_rows.specs.Rows.{TwoSet}
 use Rattle.clu_state.specs.State.{State, leader}
-
--- no two of the vertices name one group
-abbrev pub NamesOnce : (ℕ → ℕ) → List ℕ → Type 0
-NamesOnce group [] = Unit {0}
-NamesOnce group (v ∷ vs) = All (λ w. group v ≢ group w) vs × NamesOnce group vs
 
 -- a row that a leaf may have
 pub record IsRow (s : State) (r : TwoSet) : Type 0 where

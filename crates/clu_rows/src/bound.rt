@@ -9,9 +9,8 @@ ghost use Rattle.clu_rows.specs.Faults.{AreRows, IsDenominator, IsFirstFault, wo
 
 use crate::faults::first_fault;
 use crate::prices::{add_rows, clear};
-use crate::residual::Residual;
 use crate::row::{Leaf, LeafFault, Row};
-use clu_partition::Vertex;
+use clu_partition::{Residual, Vertex};
 use clu_state::Situation;
 
 /// The multipliers times the rows' right sides.

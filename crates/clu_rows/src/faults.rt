@@ -1,23 +1,15 @@
 ghost use Rattle.std.specs.Prelude.{◌≡◌, ◌≢◌, ◌↔◌, ◌<◌, ◌≤◌, ◌+◌, ◌*◌, ◌^◌, ◌++◌, ℕ, List, All, Contains, IsTrue, IfSome, IsNone, length, slice_index};
 ghost use Rattle.clu_state.specs.State.{IsState, leader};
-ghost use Rattle.clu_rows.specs.Faults.{NamesOnce, IsRow, AreRows, IsFirstFault};
+ghost use Rattle.clu_partition.specs.Groups.{NamesOnce};
+ghost use Rattle.clu_rows.specs.Faults.{IsRow, AreRows, IsFirstFault};
 
 use crate::row::Row;
-use clu_partition::Vertex;
+use clu_partition::{Vertex, is_member};
 use clu_state::Situation;
 
 /// The largest worth of a leaf's rows: the sum of the multipliers times the squares of the rows'
 /// numbers of vertices.
 const LIMIT: u128 = 1 << 120;
-
-/// Whether the vertex is one of the members, which rise.
-pub fn is_member(members: &[Vertex], v: Vertex) -> bool
-    requires rising { (i j : ℕ) → i < j → j < length members.now
-        → slice_index members.now i < slice_index members.now j }
-    ensures { IsTrue result ↔ Contains members.now v }
-{
-    members.binary_search_by_key(&v.0, |m| m.0).is_ok()
-}
 
 fn are_members(members: &[Vertex], list: &[Vertex]) -> bool
     requires rising { (i j : ℕ) → i < j → j < length members.now

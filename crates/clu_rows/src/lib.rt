@@ -10,13 +10,11 @@ mod faults;
 mod near;
 mod packing;
 mod prices;
-mod residual;
 mod row;
 #[cfg(test)]
 mod samples;
 
 pub use bound::leaf_bound;
-pub use faults::is_member;
+pub use clu_partition::Residual;
 pub use packing::pack;
-pub use residual::Residual;
 pub use row::{Leaf, LeafFault, Row};

@@ -1,7 +1,7 @@
 ghost use Rattle.std.specs.Prelude.{◌≡◌, ◌<◌, ◌≤◌, ◌<ℤ◌, IfOk, OnOk, ℕ, pos, All, Contains};
 ghost use Rattle.clu_rows.specs.Table.{AreNear, AreAllNear};
 
-use crate::residual::Residual;
+use clu_partition::Residual;
 use std::alloc::{AllocError, Global};
 use std::marker::Model;
 

@@ -8,9 +8,8 @@ ghost use Rattle.clu_rows.specs.Faults.{AreRows};
 ghost use Rattle.clu_rows.specs.Table.{Packed, Changed, Nearer, Stuck, Settled, Allied, AreAllNear};
 
 use crate::near::{Places, near_lists};
-use crate::residual::Residual;
 use crate::row::{Leaf, Row, triangle};
-use clu_partition::{Seq, Vertex};
+use clu_partition::{Residual, Seq, Vertex};
 use clu_state::Situation;
 use std::alloc::{AllocError, Global};
 

@@ -6,9 +6,8 @@ ghost use Rattle.clu_rows.specs.Rows.{coefficient, priced};
 ghost use Rattle.clu_rows.specs.Prices.{hit};
 ghost use Rattle.clu_rows.specs.Faults.{IsRow, AreRows};
 
-use crate::residual::Residual;
 use crate::row::Row;
-use clu_partition::Vertex;
+use clu_partition::{Residual, Vertex};
 use clu_state::Situation;
 
 /// Adds k to the number of a and b.

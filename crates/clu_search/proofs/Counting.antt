@@ -17,7 +17,8 @@ use Rattle.clu_state.specs.declared.decision.Decision.TheVariants.{Together, Apa
 use Rattle.clu_state.proofs.Whole.{all_members, among_below}
 use Rattle.clu_search.specs.Count.{label_lists, permits, permitted, count}
 use Rattle.clu_search.proofs.Own.{own_class}
-use Rattle.clu_search.proofs.Pigeon.{Pairwise, each_append, each_cross, pairwise_append, among_filtered, pigeon_mapped}
+use Rattle.clu_partition.proofs.ListLaws.{each_append}
+use Rattle.clu_search.proofs.Pigeon.{Pairwise, each_cross, pairwise_append, among_filtered, pigeon_mapped}
 use Rattle.clu_search.proofs.Canon.{Differ, canonical, numbered, canonical_listed, canonical_differ, numbered_tells, numbered_same}
 
 -- ---- partitions of a class

@@ -16,7 +16,7 @@ use Rattle.clu_cert.specs.Valid.{whole, stepped, AllParts, part_state, HaveUpper
 use Rattle.clu_cert.specs.declared.certificate.Certificate.{Certificate}
 use Rattle.clu_cert.specs.declared.certificate.Proof.{Proof}
 use Rattle.clu_cert.proofs.States.{IsTask, part_is_state}
-use Rattle.clu_cert.proofs.PartOf.{InPart, place_is, covered}
+use Rattle.clu_reduce.proofs.PartOf.{InPart, place_is, covered}
 use Rattle.clu_cert.proofs.Uppers.{parts_in, HasRoot, root_members, HasProofs}
 use Rattle.clu_cert.proofs.ValidLaws.{has_proofs}
 use Rattle.clu_tree.specs.Items.{branch_items}

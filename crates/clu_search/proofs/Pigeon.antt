@@ -2,7 +2,7 @@
 use Rattle.std.proofs.Common.{◌≡◌, ◌≤◌, ◌≢◌, ◌⊎◌, inl, inr, List, [], ◌∷◌, ◌++◌, length, map, filter, cond, refl, sym, ap, ◌∙◌, arith, suc, Bool, true, false}
 use Rattle.std.proofs.lemmas.List.{length-map}
 use Rattle.clu_partition.proofs.SumLaws.{Each, Among}
-use Rattle.clu_partition.proofs.ListLaws.{each_map}
+use Rattle.clu_partition.proofs.ListLaws.{each_append, each_map}
 
 -- each differs from all that follow it, in the given sense
 abbrev pub Pairwise : {A : Type 0} → (A → A → Type 0) → List A → Type 0
@@ -46,10 +46,6 @@ pigeon (x ∷ xs) ys p a =
 pub each_mapped : {A B : Type 0} (P : B → Type 0) (f : A → B) (xs : List A) → Each (λ x. P (f x)) xs → Each P (map f xs)
 each_mapped P f [] a = tt
 each_mapped P f (x ∷ xs) a = (a.0, each_mapped P f xs a.1)
-
-pub each_append : {A : Type 0} (P : A → Type 0) (xs ys : List A) → Each P xs → Each P ys → Each P (xs ++ ys)
-each_append P [] ys a b = b
-each_append P (x ∷ xs) ys a b = (a.0, each_append P xs ys a.1 b)
 
 pub each_cross : {A B : Type 0} (P : A → Type 0) (Q : B → Type 0) (R : A → B → Type 0) (xs : List A) (ys : List B) →
     ((x : A) (y : B) → P x → Q y → R x y) → Each P xs → Each Q ys → Each (λ x. Each (R x) ys) xs

@@ -6,11 +6,11 @@ use Rattle.std.proofs.lemmas.List.{length-map}
 use Rattle.std.proofs.lemmas.List.Elements.{All-append, All-contains, All-contains_itself, All-weaker, Contains-append_cases, Contains-append_left, Contains-append_right}
 use Rattle.clu_partition.specs.Closed.{Closed}
 use Rattle.clu_partition.proofs.SumLaws.{Each}
-use Rattle.clu_partition.proofs.ListLaws.{each_map, every}
+use Rattle.clu_partition.proofs.ListLaws.{each_append, each_map, every}
 use Rattle.clu_state.specs.State.{AreMembers}
 use Rattle.clu_cert.specs.Valid.{is_in}
-use Rattle.clu_cert.proofs.PartOf.{is_in_listed, listed_is_in}
-use Rattle.clu_search.proofs.Pigeon.{Pairwise, each_append, each_mapped, pairwise_append, pairwise_mapped}
+use Rattle.clu_reduce.proofs.PartOf.{is_in_listed, listed_is_in}
+use Rattle.clu_search.proofs.Pigeon.{Pairwise, each_mapped, pairwise_append, pairwise_mapped}
 use Rattle.clu_search.proofs.Canon.{Differ}
 use Rattle.clu_search.proofs.Counting.{Permits, Permitted}
 

@@ -1,5 +1,5 @@
 -- No weight between groups passes the table's total.
-use Rattle.std.proofs.Common.{◌≡◌, ℕ, ℤ, pos, neg_ℤ, ◌+◌, ◌≤◌, ◌<◌, ◌≢◌, ⊎_elim, ◌+ℤ◌, ◌≤ℤ◌, List, [], ◌∷◌, Bool, true, false, refl, ap, arith, zero, suc, ◌==◌, unsigned_abs, ◌^◌}
+use Rattle.std.proofs.Common.{◌≡◌, ℕ, ℤ, pos, neg_ℤ, ◌+◌, ◌≤◌, ◌<◌, ◌≢◌, ⊎_elim, ◌+ℤ◌, ◌≤ℤ◌, List, [], ◌∷◌, length, Bool, true, false, refl, ap, arith, zero, suc, ◌==◌, unsigned_abs, ◌^◌, Contains}
 use Rattle.std.proofs.lemmas.Int.{ints}
 use Rattle.std.proofs.lemmas.Bool.{cases_eq}
 use Rattle.std.specs.List.{range_with_len}
@@ -7,11 +7,11 @@ use Rattle.clu_partition.specs.Sums.{total, pair_total, only_if}
 use Rattle.clu_partition.specs.Values.{value_on}
 use Rattle.clu_partition.specs.Groups.{leaders, block, between}
 use Rattle.clu_partition.proofs.SumLaws.{Each, Among, Rising, total_least, pair_least, zero_least, only_least, pair_le}
-use Rattle.clu_partition.proofs.Regroup.{AreGroups, value_split, leaders_rising, between_sym}
+use Rattle.clu_partition.proofs.Regroup.{AreGroups, value_split, leaders_rising, each_filter, between_sym}
 use Rattle.clu_partition.proofs.TakeOut.{TwoOut, two_out, out_pairs}
-use Rattle.clu_partition.proofs.ListLaws.{every, each_map, each_and}
-use Rattle.clu_state.specs.State.{State, IsState, fixed_value, leader}
-use Rattle.clu_state.proofs.Bridge.{state_are_groups, below_all}
+use Rattle.clu_partition.proofs.ListLaws.{every, each_map, each_and, few_rising}
+use Rattle.clu_state.specs.State.{State, IsState, fixed_value, leader, group_leaders, group_weight}
+use Rattle.clu_state.proofs.Bridge.{state_are_groups, below_all, leader_among}
 use Rattle.clu_partition.proofs.TableLaws.{weight_sym}
 use Rattle.clu_partition.specs.Pairs.{weight_of}
 
@@ -154,3 +154,24 @@ fixed_size s i =
     let b = value_small (weight_of s.pairs) (weight_sym s.pairs) (leader s) s.members s.pairs.n (state_are_groups s i) (below_all s i) in
     let t = i.total in
     omega (arith, ints, b, t)
+
+-- the weight of two groups of a state
+pub weight_small : (s : State) → IsState s → (a b : ℕ) → Contains s.members a → Contains s.members b → leader s a ≢ leader s b → unsigned_abs (group_weight s a b) ≤ 2 ^ 88
+weight_small s i a b ca cb d =
+    let h = between_small (weight_of s.pairs) (weight_sym s.pairs) (leader s) s.members s.pairs.n (state_are_groups s i) (below_all s i) (leader s a) (leader s b) (leader_among s i a ca) (leader_among s i b cb) d in
+    let t = i.total in
+    omega (arith, ints, h, t)
+
+-- ---- how many members and groups
+pub few_members : (s : State) → IsState s → length s.members ≤ 1000
+few_members s i =
+    let h = few_rising s.members s.pairs.n (state_are_groups s i).rising (below_all s i) in
+    let k = i.small in
+    omega (arith, h, k)
+
+pub few_groups : (s : State) (groups : List ℕ) → IsState s → groups ≡ group_leaders s → length groups ≤ 1000
+few_groups s groups i e =
+    let h = few_rising (group_leaders s) s.pairs.n (leaders_rising (leader s) s.members (state_are_groups s i)) (each_filter (λ v. v < s.pairs.n) _ s.members (below_all s i)) in
+    let k = ap length e in
+    let l = i.small in
+    omega (arith, h, k, l)

@@ -12,8 +12,8 @@ use Rattle.clu_partition.proofs.TableLaws.{weight_sym}
 use Rattle.clu_state.specs.declared.decision.Decision.{Decision}
 use Rattle.clu_state.specs.State.{IsState, AreMembers, undecided}
 use Rattle.clu_state.specs.Rebuilt.{Agrees}
-use Rattle.clu_state.specs.Marks.{Marks, is_marked, with_mark, AreMarks}
-use Rattle.clu_state.proofs.MarkLaws.{mark_same, mark_other, mark_sym}
+use Rattle.clu_partition.specs.PairSets.{Chosen, has, with_pair, AreCells}
+use Rattle.clu_partition.proofs.PairMerges.{put_here, put_other, has_turn}
 use Rattle.clu_state.proofs.Bridge.{each_from, rising_from_index}
 use Rattle.clu_state.proofs.Bounds.{members_small}
 use Rattle.clu_state.specs.Building.{ArePlaces, GrownBy, MarkedBy, home, share, kept, size_between, HasHome, HasRoom}
@@ -24,16 +24,16 @@ use Rattle.clu_partition.proofs.ListLaws.{few_rising}
 use Rattle.clu_partition.proofs.BoolLaws.{or_false}
 
 -- one more pair of members
-pub marked_pair : (members place : List ℕ) (old new : Marks) (u v p q x z : ℕ) → AreMarks old → old.n ≡ length members → ArePlaces members place →
-    Contains members u → Contains members v → p ≡ slice_index place u → q ≡ slice_index place v → new ≡ with_mark old p q → x < length members → z < length members →
-    is_marked new x z ≡ (are_pair u v (slice_index members x) (slice_index members z) || is_marked old x z)
-marked_pair members place old new u v p q x z a n at' cu cv ep eq' en lx lz = ap (λ (m : Marks). is_marked m x z) en ∙ ⊎_elim
+pub marked_pair : (members place : List ℕ) (old new : Chosen) (u v p q x z : ℕ) → AreCells old → old.n ≡ length members → ArePlaces members place →
+    Contains members u → Contains members v → p ≡ slice_index place u → q ≡ slice_index place v → new ≡ with_pair old p q → x < length members → z < length members →
+    has new x z ≡ (are_pair u v (slice_index members x) (slice_index members z) || has old x z)
+marked_pair members place old new u v p q x z a n at' cu cv ep eq' en lx lz = ap (λ (m : Chosen). has m x z) en ∙ ⊎_elim
     (λ h. ⊎_elim
-    (λ s. here s.0 s.1 ∙ ap (λ k. k || is_marked old x z) (sym (is_pair u v (slice_index members x) (slice_index members z) (inl (sym mp ∙ ap (slice_index members) s.0, sym mq ∙ ap (slice_index members) s.1)))))
-    (λ s. mark_sym (with_mark old p q) x z ∙ turned s.0 s.1 ∙ ap (λ k. k || is_marked old x z) (sym (is_pair u v (slice_index members x) (slice_index members z) (inr (sym mp ∙ ap (slice_index members) s.0, sym mq ∙ ap (slice_index members) s.1)))))
+    (λ s. here s.0 s.1 ∙ ap (λ k. k || has old x z) (sym (is_pair u v (slice_index members x) (slice_index members z) (inl (sym mp ∙ ap (slice_index members) s.0, sym mq ∙ ap (slice_index members) s.1)))))
+    (λ s. has_turn (with_pair old p q) x z ∙ turned s.0 s.1 ∙ ap (λ k. k || has old x z) (sym (is_pair u v (slice_index members x) (slice_index members z) (inr (sym mp ∙ ap (slice_index members) s.0, sym mq ∙ ap (slice_index members) s.1)))))
     h.1)
-    (λ h. mark_other old p q x z lp lq (omega (arith, n, lx)) (omega (arith, n, lz)) h.1 ∙
-    ap (λ k. k || is_marked old x z) (sym (not_pair u v (slice_index members x) (slice_index members z)
+    (λ h. put_other old p q x z lp lq (omega (arith, n, lx)) (omega (arith, n, lz)) h.1 ∙
+    ap (λ k. k || has old x z) (sym (not_pair u v (slice_index members x) (slice_index members z)
     (λ k. no h.0 (inl (back u p x ep k.0 lx, back v q z eq' k.1 lz)))
     (λ k. no h.0 (inr (back u p z ep k.0 lz, back v q x eq' k.1 lx))))))
     (pair_cases p q x z)
@@ -56,11 +56,11 @@ marked_pair members place old new u v p q x z a n at' cu cv ep eq' en lx lz = ap
     no : are_pair p q x z ≡ false → ((p ≡ x) × (q ≡ z)) ⊎ ((p ≡ z) × (q ≡ x)) → ⊥
     no e h = let t = is_pair p q x z h in cc
 
-    here : p ≡ x → q ≡ z → is_marked (with_mark old p q) x z ≡ true
-    here s t = subst (λ x. is_marked (with_mark old p q) x z ≡ true) s (subst (λ z. is_marked (with_mark old p q) p z ≡ true) t (mark_same old p q a lp lq))
+    here : p ≡ x → q ≡ z → has (with_pair old p q) x z ≡ true
+    here s t = subst (λ x. has (with_pair old p q) x z ≡ true) s (subst (λ z. has (with_pair old p q) p z ≡ true) t (put_here old p q a lp lq))
 
-    turned : p ≡ z → q ≡ x → is_marked (with_mark old p q) z x ≡ true
-    turned s t = subst (λ z. is_marked (with_mark old p q) z x ≡ true) s (subst (λ x. is_marked (with_mark old p q) p x ≡ true) t (mark_same old p q a lp lq))
+    turned : p ≡ z → q ≡ x → has (with_pair old p q) z x ≡ true
+    turned s t = subst (λ z. has (with_pair old p q) z x ≡ true) s (subst (λ x. has (with_pair old p q) p x ≡ true) t (put_here old p q a lp lq))
 
 -- ---- what the members give
 all_from : (P : ℕ → Type 0) (xs : List ℕ) → ((x : ℕ) → Contains xs x → P x) → All P xs
@@ -113,12 +113,12 @@ joins_least group (p ∷ ps) a b l ea eb =
     ap (λ k. are_pair (group p.0) (group p.1) k b || joins group ps a b) (sym ea) ∙
     ap (λ k. are_pair (group p.0) (group p.1) (group a) k || joins group ps a b) (sym eb)
 
-pub built : (pairs : Pairs) (start : Closed) (members group place : List ℕ) (blank weights : Pairs) (none apart : Marks) (fixed : ℤ) → IsState (undecided pairs start members) →
+pub built : (pairs : Pairs) (start : Closed) (members group place : List ℕ) (blank weights : Pairs) (none apart : Chosen) (fixed : ℤ) → IsState (undecided pairs start members) →
     group ≡ start.group → length place ≡ length start.group → ArePlaces members place →
     blank.n ≡ length members → ((u v : ℕ) → weight_of blank u v ≡ pos 0) → weights.n ≡ blank.n →
     GrownBy (λ x z. pair_total (share (weight_of pairs) (home group place) x z) members) blank weights →
     fixed ≡ pair_total (kept (weight_of pairs) (home group place)) members →
-    none.n ≡ length members → ((u v : ℕ) → is_marked none u v ≡ false) → apart.n ≡ none.n →
+    none.n ≡ length members → ((u v : ℕ) → has none u v ≡ false) → apart.n ≡ none.n →
     MarkedBy (joins (λ v. v) start.forbidden) members none apart →
     Agrees (undecided pairs start members) group place weights apart fixed
 built pairs start members group place blank weights none apart fixed s eg lp at' zn zs wn sums inside nn ns an marks = record {
@@ -143,8 +143,8 @@ built pairs start members group place blank weights none apart fixed s eg lp at'
       let pa = place_is members place a at' la.member in
       let pb = place_is members place b at' lb.member in
       marks (slice_index place a) (slice_index place b) pa.0 pb.0 ∙
-      ap (λ k. joins (λ v. v) start.forbidden k (slice_index members (slice_index place b)) || is_marked none (slice_index place a) (slice_index place b)) pa.1 ∙
-      ap (λ k. joins (λ v. v) start.forbidden a k || is_marked none (slice_index place a) (slice_index place b)) pb.1 ∙
+      ap (λ k. joins (λ v. v) start.forbidden k (slice_index members (slice_index place b)) || has none (slice_index place a) (slice_index place b)) pa.1 ∙
+      ap (λ k. joins (λ v. v) start.forbidden a k || has none (slice_index place a) (slice_index place b)) pb.1 ∙
       ap (λ k. joins (λ v. v) start.forbidden a b || k) (ns (slice_index place a) (slice_index place b)) ∙
       or_false (joins (λ v. v) start.forbidden a b) ∙
       joins_least (slice_index start.group) start.forbidden a b s.closed.least_pairs la.least lb.least ∙
@@ -155,7 +155,7 @@ built pairs start members group place blank weights none apart fixed s eg lp at'
     inner : (v : ℕ) → Contains members v → Contains members (slice_index group v)
     inner v c = subst (λ (g : List ℕ). Contains members (slice_index g v)) (sym eg) (into start members v s.members c)
 
-pub built_as : (pairs : Pairs) (start : Closed) (members members' : List ℕ) (decisions : List Decision) (group group' place place' : List ℕ) (weights : Pairs) (apart : Marks) (fixed fixed' : ℤ) → Agrees (undecided pairs start members) group place weights apart fixed →
+pub built_as : (pairs : Pairs) (start : Closed) (members members' : List ℕ) (decisions : List Decision) (group group' place place' : List ℕ) (weights : Pairs) (apart : Chosen) (fixed fixed' : ℤ) → Agrees (undecided pairs start members) group place weights apart fixed →
     members' ≡ members → decisions ≡ [] → group ≡ group' → place ≡ place' → fixed' ≡ fixed → Agrees (record { pairs = pairs; start = start; members = members'; decisions = decisions }) group' place' weights apart fixed'
 built_as pairs start members members' decisions group group' place place' weights apart fixed fixed' a em ed eg ep ef =
     subst (λ ms. Agrees (record { pairs = pairs; start = start; members = ms; decisions = decisions }) group' place' weights apart fixed') (sym em)

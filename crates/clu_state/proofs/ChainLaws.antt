@@ -1,41 +1,22 @@
 -- Two vertices are tied exactly where they have one least vertex.
 use Rattle.std.proofs.Common.{zero, suc, slice_index_or, if◌then◌else◌, ◌==◌, ◌≡◌, ℕ, ◌<◌, ◌⊎◌, ⊎_elim, min, max, List, [], ◌∷◌, length, slice_index, Contains, refl, sym, ap, ◌∙◌, subst, arith}
-use Rattle.std.proofs.lemmas.Bool.{cases_eq}
 use Rattle.std.proofs.lemmas.List.Elements.{All-contains, Contains-append_right, Contains-append_cases}
 use Rattle.clu_state.specs.State.{State, IsState, merged, groups_after, leader}
 use Rattle.clu_state.specs.Chains.{Tied, same, required, joined, back, chain, IsLeastTied}
 use Rattle.clu_state.specs.declared.decision.Decision.{Decision}
 use Rattle.clu_state.specs.declared.decision.Decision.TheVariants.{Together, Apart}
-use Rattle.clu_state.proofs.GroupLaws.{state_groups, AllMembers, made_members, merged_high, merged_other}
+use Rattle.clu_state.proofs.GroupLaws.{state_groups, AllMembers, made_members}
 use Rattle.clu_state.proofs.Class.{same_group_member}
+use Rattle.clu_partition.proofs.TieLaws.{merged_equal, merged_ties}
 
 -- ---- a vertex is tied to its least vertex
-tied_merged : (s : State) (group : ℕ → ℕ) (u v : ℕ) → Tied s u v → ((x : ℕ) → x < length s.start.group → Tied s (group x) x) → u < length s.start.group → v < length s.start.group →
-    (x : ℕ) → x < length s.start.group → Tied s (merged group u v x) x
-tied_merged s group u v t f lu lv x lx = ⊎_elim
-    (λ e. subst (λ y. Tied s y x) (sym (merged_high group u v x e)) (chain (low e) (f x lx)))
-    (λ n. subst (λ y. Tied s y x) (sym (merged_other group u v x n)) (f x lx))
-    (cases_eq (group x) (max (group u) (group v)))
-  where
-    pick : (a b : ℕ) → ((min a b ≡ a) × (max a b ≡ b)) ⊎ ((min a b ≡ b) × (max a b ≡ a))
-    pick a b = grind arith
-
-    across : Tied s (group u) (group v)
-    across = chain (f u lu) (chain t (back (f v lv)))
-
-    low : group x ≡ max (group u) (group v) → Tied s (min (group u) (group v)) (group x)
-    low e = ⊎_elim
-        (λ p. subst (λ y. Tied s y (group x)) (sym p.0) (subst (λ y. Tied s (group u) y) (sym (e ∙ p.1)) across))
-        (λ p. subst (λ y. Tied s y (group x)) (sym p.0) (subst (λ y. Tied s (group v) y) (sym (e ∙ p.1)) (back across)))
-        (pick (group u) (group v))
-
 tied_after : (s : State) (ds : List Decision) (group : ℕ → ℕ) → ((d : Decision) → Contains ds d → Contains s.decisions d) → AllMembers s.members ds → ((v : ℕ) → Contains s.members v → v < length s.start.group) →
     ((x : ℕ) → x < length s.start.group → Tied s (group x) x) → (x : ℕ) → x < length s.start.group → Tied s (groups_after group ds x) x
 unfolding AllMembers
 tied_after s [] group sub a below f x lx = f x lx
 tied_after s (Together u v ∷ ds) group sub a below f x lx =
     tied_after s ds (merged group u v) (λ d c. sub d (Contains-append_right (Together u v ∷ []) ds d c)) a.1 below
-    (tied_merged s group u v (joined (sub (Together u v) (0, omega arith, refl))) f (below u a.0.0) (below v a.0.1)) x lx
+    (merged_ties (Tied s) (λ _ _. back) (λ _ _ _. chain) (length s.start.group) group u v (joined (sub (Together u v) (0, omega arith, refl))) f (below u a.0.0) (below v a.0.1)) x lx
 tied_after s (Apart u v ∷ ds) group sub a below f x lx =
     tied_after s ds group (λ d c. sub d (Contains-append_right (Apart u v ∷ []) ds d c)) a.1 below f x lx
 
@@ -49,19 +30,6 @@ pub stays_equal : (ds : List Decision) (group : ℕ → ℕ) (x y : ℕ) → gro
 stays_equal [] group x y e = e
 stays_equal (Together u v ∷ ds) group x y e = stays_equal ds (merged group u v) x y (ap (λ k. if k == max (group u) (group v) then min (group u) (group v) else k) e)
 stays_equal (Apart u v ∷ ds) group x y e = stays_equal ds group x y e
-
-merged_equal : (group : ℕ → ℕ) (u v : ℕ) → merged group u v u ≡ merged group u v v
-merged_equal group u v = to_min u (first (group u) (group v)) ∙ sym (to_min v (second (group u) (group v)))
-  where
-    first : (a b : ℕ) → (a ≡ max a b) ⊎ (a ≡ min a b)
-    first a b = grind arith
-
-    second : (a b : ℕ) → (b ≡ max a b) ⊎ (b ≡ min a b)
-    second a b = grind arith
-
-    to_min : (x : ℕ) → (group x ≡ max (group u) (group v)) ⊎ (group x ≡ min (group u) (group v)) → merged group u v x ≡ min (group u) (group v)
-    to_min x p = ⊎_elim (λ e. merged_high group u v x e)
-        (λ e. ⊎_elim (λ f. merged_high group u v x f) (λ n. merged_other group u v x n ∙ e) (cases_eq (group x) (max (group u) (group v)))) p
 
 one_is : (x d : Decision) (k : ℕ) → k < 1 → slice_index_or (x ∷ []) k d ≡ d → x ≡ d
 one_is x d zero l e = e

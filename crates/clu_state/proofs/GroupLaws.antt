@@ -1,6 +1,6 @@
 -- The groups of a state.
-use Rattle.std.proofs.Common.{◌≡◌, ℕ, ◌≤◌, ◌<◌, ◌≢◌, ◌⊎◌, ⊎_elim, min, max, List, [], ◌∷◌, length, sym, ap, ◌∙◌, subst, arith, slice_index, Contains, if◌then◌else◌}
-use Rattle.std.proofs.lemmas.Bool.{eq-eqb, ne_eqb, cases_eq}
+use Rattle.std.proofs.Common.{◌≡◌, ℕ, ◌≤◌, ◌<◌, ◌⊎◌, ⊎_elim, min, max, List, [], ◌∷◌, length, sym, ap, ◌∙◌, subst, arith, slice_index, Contains}
+use Rattle.std.proofs.lemmas.Bool.{cases_eq}
 use Rattle.std.proofs.lemmas.List.Elements.{All-contains}
 use Rattle.clu_partition.specs.Closed.{Closed, IsClosed}
 use Rattle.clu_state.specs.State.{State, IsState, AreMembers, group_weight, merged, groups_after, leader, CanDecideAll, decided}
@@ -9,18 +9,13 @@ use Rattle.clu_state.specs.declared.decision.Decision.{Decision}
 use Rattle.clu_state.specs.declared.decision.Decision.TheVariants.{Together, Apart}
 use Rattle.clu_partition.specs.Groups.{between}
 use Rattle.clu_partition.specs.Pairs.{weight_of}
+pub use Rattle.clu_partition.proofs.TieLaws.{merged_high, merged_other}
 
 -- a map from members to the least members of their groups
 pub record Groups (group : ℕ → ℕ) (members : List ℕ) : Type 0 where
   pub into : (v : ℕ) → Contains members v → Contains members (group v)
   pub idem : (v : ℕ) → Contains members v → group (group v) ≡ group v
   pub low : (v : ℕ) → Contains members v → group v ≤ v
-
-pub merged_high : (group : ℕ → ℕ) (u v x : ℕ) → group x ≡ max (group u) (group v) → merged group u v x ≡ min (group u) (group v)
-merged_high group u v x e = ap (λ b. if b then min (group u) (group v) else group x) (eq-eqb (group x) (max (group u) (group v)) e)
-
-pub merged_other : (group : ℕ → ℕ) (u v x : ℕ) → group x ≢ max (group u) (group v) → merged group u v x ≡ group x
-merged_other group u v x n = ap (λ b. if b then min (group u) (group v) else group x) (ne_eqb (group x) (max (group u) (group v)) n)
 
 pub min_either : (P : ℕ → Type 0) (a b : ℕ) → P a → P b → P (min a b)
 min_either P a b p q = ⊎_elim (λ l. subst P l p) (λ l. subst P l q) (which a b)

@@ -12,8 +12,8 @@ use Rattle.clu_partition.proofs.Regroup.{AreGroups, between_sym, among_filter}
 use Rattle.clu_partition.proofs.TableLaws.{weight_sym}
 use Rattle.clu_partition.specs.Closed.{joins}
 use Rattle.clu_partition.proofs.JoinLaws.{joins_turn}
-use Rattle.clu_state.specs.Marks.{Marks, is_marked}
-use Rattle.clu_state.proofs.MarkLaws.{mark_sym}
+use Rattle.clu_partition.specs.PairSets.{Chosen, has}
+use Rattle.clu_partition.proofs.PairMerges.{has_turn}
 use Rattle.clu_state.proofs.JoinSteps.{joins_low, joins_aside}
 use Rattle.clu_state.proofs.Class.{same_group_member}
 use Rattle.clu_state.specs.State.{State, IsState, IsFree, merged, step_group, groups_after, leader, CanDecide, CanDecideAll, decided, fixed_value, are_apart, kept_apart, apart_decisions}
@@ -102,7 +102,7 @@ pub record Summed (members group : List ℕ) (old new : Pairs) (low high : ℕ) 
   pub others : (i j : ℕ) → i < length members → j < length members → i ≢ low → j ≢ low → weight_of new i j ≡ weight_of old i j
 
 -- the new weights, for the merged groups
-new_weight : (s : State) (group place : List ℕ) (old new : Pairs) (apart : Marks) (fixed : ℤ) (low high a b : ℕ) → Agrees s group place old apart fixed → Two s low high →
+new_weight : (s : State) (group place : List ℕ) (old new : Pairs) (apart : Chosen) (fixed : ℤ) (low high a b : ℕ) → Agrees s group place old apart fixed → Two s low high →
     Summed s.members group old new (slice_index place low) (slice_index place high) →
     Leads s a → Leads s b → a ≢ high → b ≢ high → a ≢ b →
     weight_of new (slice_index place a) (slice_index place b) ≡ between (weight_of s.pairs) (relabelled (leader s) low high) s.members a b
@@ -138,21 +138,21 @@ new_weight s group place old new marks fixed low high a b g t m la lb ah bh ab =
         sym (between_low w (leader s) low high x s.members t.differ n k)
 
 -- what the loop over the marks left
-pub record Marked (old new : Marks) (low high : ℕ) : Type 0 where
+pub record Marked (old new : Chosen) (low high : ℕ) : Type 0 where
   pub size : new.n ≡ old.n
-  pub joined : (j : ℕ) → j < old.n → j ≢ low → is_marked new low j ≡ (is_marked old low j || is_marked old high j)
-  pub others : (i j : ℕ) → i < old.n → j < old.n → i ≢ low → j ≢ low → is_marked new i j ≡ is_marked old i j
+  pub joined : (j : ℕ) → j < old.n → j ≢ low → has new low j ≡ (has old low j || has old high j)
+  pub others : (i j : ℕ) → i < old.n → j < old.n → i ≢ low → j ≢ low → has new i j ≡ has old i j
 
 -- the new marks, for the merged groups
-new_mark : (s : State) (group place : List ℕ) (weights : Pairs) (old new : Marks) (fixed : ℤ) (low high a b : ℕ) → Agrees s group place weights old fixed → Two s low high →
+new_mark : (s : State) (group place : List ℕ) (weights : Pairs) (old new : Chosen) (fixed : ℤ) (low high a b : ℕ) → Agrees s group place weights old fixed → Two s low high →
     Marked old new (slice_index place low) (slice_index place high) →
     Leads s a → Leads s b → a ≢ high → b ≢ high → a ≢ b →
-    is_marked new (slice_index place a) (slice_index place b) ≡ joins (relabelled (leader s) low high) (kept_apart s) a b
+    has new (slice_index place a) (slice_index place b) ≡ joins (relabelled (leader s) low high) (kept_apart s) a b
 new_mark s group place weights old new fixed low high a b g t m la lb ah bh ab = ⊎_elim
-    (λ e. subst (λ x. is_marked new (slice_index place x) (slice_index place b) ≡ joins (relabelled (leader s) low high) (kept_apart s) x b) (sym e) (at_low b lb (λ f. ab (e ∙ sym f)) bh))
+    (λ e. subst (λ x. has new (slice_index place x) (slice_index place b) ≡ joins (relabelled (leader s) low high) (kept_apart s) x b) (sym e) (at_low b lb (λ f. ab (e ∙ sym f)) bh))
     (λ n. ⊎_elim
-    (λ e. mark_sym new (slice_index place a) (slice_index place b) ∙
-    subst (λ x. is_marked new (slice_index place x) (slice_index place a) ≡ joins (relabelled (leader s) low high) (kept_apart s) x a) (sym e) (at_low a la n ah) ∙
+    (λ e. has_turn new (slice_index place a) (slice_index place b) ∙
+    subst (λ x. has new (slice_index place x) (slice_index place a) ≡ joins (relabelled (leader s) low high) (kept_apart s) x a) (sym e) (at_low a la n ah) ∙
     joins_turn (relabelled (leader s) low high) (kept_apart s) b a)
     (λ k. m.others (slice_index place a) (slice_index place b) (p a la) (p b lb) (far a la n) (far b lb k) ∙
     g.separated a b la lb ab ∙
@@ -166,21 +166,21 @@ new_mark s group place weights old new fixed low high a b g t m la lb ah bh ab =
     far : (x : ℕ) → Leads s x → x ≢ low → slice_index place x ≢ slice_index place low
     far x l n = places_differ s.members place x low g.places l.member t.low_leads.member n
 
-    at_low : (x : ℕ) → Leads s x → x ≢ low → x ≢ high → is_marked new (slice_index place low) (slice_index place x) ≡ joins (relabelled (leader s) low high) (kept_apart s) low x
+    at_low : (x : ℕ) → Leads s x → x ≢ low → x ≢ high → has new (slice_index place low) (slice_index place x) ≡ joins (relabelled (leader s) low high) (kept_apart s) low x
     at_low x l n k =
         m.joined (slice_index place x) (p x l) (far x l n) ∙
-        ap (λ z. z || is_marked old (slice_index place high) (slice_index place x)) (g.separated low x t.low_leads l (λ e. n (sym e))) ∙
+        ap (λ z. z || has old (slice_index place high) (slice_index place x)) (g.separated low x t.low_leads l (λ e. n (sym e))) ∙
         ap (λ z. are_apart s low x || z) (g.separated high x t.high_leads l (λ e. k (sym e))) ∙
         sym (joins_low (leader s) low high x t.low_leads.least t.high_leads.least t.differ (l.least, (n, k)) (kept_apart s))
 
-leads_leader : (s : State) (a : ℕ) → Leads s a → Among a (leaders (leader s) s.members)
+pub leads_leader : (s : State) (a : ℕ) → Leads s a → Among a (leaders (leader s) s.members)
 leads_leader s a l = among_filter (λ u. leader s u == u) a s.members (eq-eqb (leader s a) a l.least) (among_from s.members a l.member)
 
-new_fixed : (s : State) (low high : ℕ) → IsState s → Two s low high → value_on (weight_of s.pairs) (relabelled (leader s) low high) s.members ≡ fixed_value s +ℤ between (weight_of s.pairs) (leader s) s.members low high
+pub new_fixed : (s : State) (low high : ℕ) → IsState s → Two s low high → value_on (weight_of s.pairs) (relabelled (leader s) low high) s.members ≡ fixed_value s +ℤ between (weight_of s.pairs) (leader s) s.members low high
 new_fixed s low high i t = value_relabelled (weight_of s.pairs) (weight_sym s.pairs) (leader s) low high s.members (state_are_groups s i) (leads_leader s low t.low_leads) (leads_leader s high t.high_leads) t.low_leads.least t.high_leads.least t.differ
 
 -- the tables after `together`
-pub agrees_together : (s : State) (group group' place : List ℕ) (old new : Pairs) (marks marks' : Marks) (fixed : ℤ) (u v low high : ℕ) → Agrees s group place old marks fixed → IsFree s u v →
+pub agrees_together : (s : State) (group group' place : List ℕ) (old new : Pairs) (marks marks' : Chosen) (fixed : ℤ) (u v low high : ℕ) → Agrees s group place old marks fixed → IsFree s u v →
     low ≡ min (leader s u) (leader s v) → high ≡ max (leader s u) (leader s v) →
     length group' ≡ length group → EachIndex group' (λ k. slice_index group' k ≡ (if slice_index group k == high then low else slice_index group k)) →
     Summed s.members group old new (slice_index place low) (slice_index place high) →
@@ -222,7 +222,7 @@ agrees_together s group group' place old new marks marks' fixed u v low high g f
     t = subst (λ k. Two s k high) (sym el) (subst (Two s (min (leader s u) (leader s v))) (sym eh) (two_of s u v g.state f))
 
 -- ---- what the join of two groups needs
-pub record Ready (members group place : List ℕ) (weights : Pairs) (apart : Marks) (low high : ℕ) : Type 0 where
+pub record Ready (members group place : List ℕ) (weights : Pairs) (apart : Chosen) (low high : ℕ) : Type 0 where
   pub low_below : low < length place
   pub high_below : high < length place
   pub low_place : slice_index place low < length members
@@ -251,7 +251,7 @@ sum_small s low high x i t _ g l n k =
     let total = i.total in
     omega (arith, ints, b, z, total)
 
-pub ready : (s : State) (group place : List ℕ) (weights : Pairs) (apart : Marks) (fixed : ℤ) (u v low high : ℕ) → Agrees s group place weights apart fixed → IsFree s u v →
+pub ready : (s : State) (group place : List ℕ) (weights : Pairs) (apart : Chosen) (fixed : ℤ) (u v low high : ℕ) → Agrees s group place weights apart fixed → IsFree s u v →
     low ≡ min (slice_index group u) (slice_index group v) → high ≡ max (slice_index group u) (slice_index group v) → Ready s.members group place weights apart low high
 ready s group place weights apart fixed u v low high g f el eh = record {
   low_below = let a = member_below s low g.state t.low_leads.member in let b = g.place_size in omega (arith, a, b);
@@ -303,11 +303,11 @@ ready s group place weights apart fixed u v low high g f el eh = record {
     merged_groups : AreGroups (relabelled (leader s) low high) s.members
     merged_groups = subst (λ (h : ℕ → ℕ). AreGroups h s.members) path (state_are_groups (decided s (Together u v)) (decided_state s (Together u v) g.state f))
 
-pub ready_at : (s : State) (members group place : List ℕ) (weights : Pairs) (apart : Marks) (fixed : ℤ) (u v low high : ℕ) → s.members ≡ members → Agrees s group place weights apart fixed → IsFree s u v →
+pub ready_at : (s : State) (members group place : List ℕ) (weights : Pairs) (apart : Chosen) (fixed : ℤ) (u v low high : ℕ) → s.members ≡ members → Agrees s group place weights apart fixed → IsFree s u v →
     low ≡ min (slice_index group u) (slice_index group v) → high ≡ max (slice_index group u) (slice_index group v) → Ready members group place weights apart low high
 ready_at s members group place weights apart fixed u v low high em g f el eh = subst (λ ms. Ready ms group place weights apart low high) em (ready s group place weights apart fixed u v low high g f el eh)
 
-pub joined_agrees : (s : State) (members group group' place : List ℕ) (old new : Pairs) (marks marks' : Marks) (fixed gained : ℤ) (u v low high p q : ℕ) → s.members ≡ members → Agrees s group place old marks fixed → IsFree s u v →
+pub joined_agrees : (s : State) (members group group' place : List ℕ) (old new : Pairs) (marks marks' : Chosen) (fixed gained : ℤ) (u v low high p q : ℕ) → s.members ≡ members → Agrees s group place old marks fixed → IsFree s u v →
     low ≡ min (slice_index group u) (slice_index group v) → high ≡ max (slice_index group u) (slice_index group v) →
     length group' ≡ length group → EachIndex group' (λ k. slice_index group' k ≡ (if slice_index group k == high then low else slice_index group k)) →
     Summed members group old new p q → Marked marks marks' p q → p ≡ slice_index place low → q ≡ slice_index place high → gained ≡ weight_of old p q →
@@ -324,10 +324,10 @@ joined_agrees s members group group' place old new marks marks' fixed gained u v
     subst (λ z. Agrees (decided s (Together u v)) group' place new marks' (fixed +ℤ z)) (sym w)
     (agrees_together s group group' place old new marks marks' fixed u v low high g f (omega (arith, el, lu, lv)) (omega (arith, eh, lu, lv)) len re m3 k2)
 
-pub fixed_small : (s : State) (group place : List ℕ) (weights : Pairs) (apart : Marks) (fixed : ℤ) → Agrees s group place weights apart fixed → unsigned_abs fixed ≤ 2 ^ 88
+pub fixed_small : (s : State) (group place : List ℕ) (weights : Pairs) (apart : Chosen) (fixed : ℤ) → Agrees s group place weights apart fixed → unsigned_abs fixed ≤ 2 ^ 88
 fixed_small s group place weights apart fixed g = let b = fixed_size s g.state in let z = ap unsigned_abs g.inside in omega (arith, b, z)
 
-pub agrees_same : (s t : State) (group group' place place' : List ℕ) (weights : Pairs) (apart : Marks) (fixed fixed' : ℤ) → Agrees s group place weights apart fixed → t ≡ s → group' ≡ group → place' ≡ place → fixed' ≡ fixed →
+pub agrees_same : (s t : State) (group group' place place' : List ℕ) (weights : Pairs) (apart : Chosen) (fixed fixed' : ℤ) → Agrees s group place weights apart fixed → t ≡ s → group' ≡ group → place' ≡ place → fixed' ≡ fixed →
     Agrees t group' place' weights apart fixed'
 agrees_same s t group group' place place' weights apart fixed fixed' g es eg ep ef =
     subst (λ x. Agrees x group' place' weights apart fixed') (sym es)

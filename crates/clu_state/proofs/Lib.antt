@@ -6,7 +6,6 @@ pub mod FreePairs
 pub mod Merge
 pub mod Bounds
 pub mod MergeLoop
-pub mod MarkLaws
 pub mod JoinSteps
 pub mod Relabel
 pub mod Joined

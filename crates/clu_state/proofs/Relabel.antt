@@ -4,10 +4,7 @@ use Rattle.std.proofs.Math.ListN.{length-set}
 use Rattle.std.proofs.lemmas.Bool.{cases_eq, eq-eqb, ne_eqb, eqb-true, eqb-false}
 use Rattle.std.proofs.lemmas.List.Elements.{All-contains}
 use Rattle.std.proofs.lemmas.Grind.{get_or_default_zero}
-
--- `low` for `high`, and other groups as they are
-abbrev pub over : ℕ → ℕ → ℕ → ℕ
-over low high g = if g == high then low else g
+use Rattle.clu_partition.proofs.TieLaws.{over}
 
 -- the first j members have gone over
 pub record OverBelow (members old now : List ℕ) (low high j : ℕ) : Type 0 where

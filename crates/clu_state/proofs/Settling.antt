@@ -23,7 +23,7 @@ pub record Settles (s : State) (part : ℕ → ℕ) : Type 0 where
       (are_apart s a b ≡ true) ⊎ (between (weight_of s.pairs) (leader s) s.members a b ≤ℤ pos 0)
 
 -- the value of a partition of the class, by the groups
-class_value : (s : State) → IsState s → (label : ℕ → ℕ) → InClass s label →
+pub class_value : (s : State) → IsState s → (label : ℕ → ℕ) → InClass s label →
     worth s label ≡ value_on (weight_of s.pairs) (leader s) s.members +ℤ value_on (between (weight_of s.pairs) (leader s) s.members) label
     (group_leaders s)
 class_value s i label c = value_split (weight_of s.pairs) (weight_sym s.pairs) label (leader s) s.members (state_are_groups s i)

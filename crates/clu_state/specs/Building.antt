@@ -2,7 +2,7 @@
 use Rattle.std.specs.Prelude.{◌≡◌, ◌≢◌, ℕ, ◌<◌, ◌^◌, ℤ, pos, ◌+ℤ◌, ◌≤ℤ◌, List, length, slice_index, Bool, ◌==◌, ◌||◌, unsigned_abs}
 use Rattle.clu_partition.specs.Sums.{only_if}
 use Rattle.clu_partition.specs.Pairs.{Pairs, weight_of, are_pair}
-use Rattle.clu_state.specs.Marks.{Marks, is_marked}
+use Rattle.clu_partition.specs.PairSets.{Chosen, has}
 
 -- the place of the least vertex of the group of v
 abbrev pub home : List ℕ → List ℕ → ℕ → ℕ
@@ -40,6 +40,6 @@ abbrev pub ArePlaces : List ℕ → List ℕ → Type 0
 ArePlaces members place = (i : ℕ) → i < length members → slice_index place (slice_index members i) ≡ i
 
 -- the places of the members that the test names are marked beside those that were
-abbrev pub MarkedBy : (ℕ → ℕ → Bool) → List ℕ → Marks → Marks → Type 0
+abbrev pub MarkedBy : (ℕ → ℕ → Bool) → List ℕ → Chosen → Chosen → Type 0
 MarkedBy test members old new = (x z : ℕ) → x < length members → z < length members
-    → is_marked new x z ≡ (test (slice_index members x) (slice_index members z) || is_marked old x z)
+    → has new x z ≡ (test (slice_index members x) (slice_index members z) || has old x z)

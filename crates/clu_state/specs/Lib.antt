@@ -1,5 +1,4 @@
 pub mod Chains
-pub mod Marks
 pub mod Rebuilt
 pub mod State
 pub mod Building

@@ -2,7 +2,7 @@
 use Rattle.std.specs.Prelude.{◌≡◌, ◌≢◌, ℕ, ◌<◌, ◌≤◌, ℤ, List, length, slice_index, Contains}
 use Rattle.clu_partition.specs.Pairs.{Pairs, weight_of}
 use Rattle.clu_partition.specs.Groups as groups
-use Rattle.clu_state.specs.Marks.{Marks, is_marked}
+use Rattle.clu_partition.specs.PairSets.{Chosen, has}
 use Rattle.clu_state.specs.State.{State, IsState, leader, are_apart, fixed_value}
 
 -- a member that is the least of its group
@@ -12,7 +12,7 @@ pub record Leads (s : State) (a : ℕ) : Type 0 where
 
 -- The tables agree with a state: the group of each vertex, the place of each member, the weights between groups and the
 -- marks of those that are apart, both by the places of the groups' least vertices, and the weight inside groups.
-pub record Agrees (s : State) (group place : List ℕ) (weights : Pairs) (apart : Marks) (fixed : ℤ) : Type 0 where
+pub record Agrees (s : State) (group place : List ℕ) (weights : Pairs) (apart : Chosen) (fixed : ℤ) : Type 0 where
   pub state : IsState s
   pub few : length s.members ≤ 1000
   pub group_size : length group ≡ length s.start.group
@@ -22,5 +22,5 @@ pub record Agrees (s : State) (group place : List ℕ) (weights : Pairs) (apart 
   pub table_size : weights.n ≡ length s.members
   pub contracted : (a b : ℕ) → Leads s a → Leads s b → a ≢ b → weight_of weights (slice_index place a) (slice_index place b) ≡ groups.between (weight_of s.pairs) (leader s) s.members a b
   pub marks_size : apart.n ≡ length s.members
-  pub separated : (a b : ℕ) → Leads s a → Leads s b → a ≢ b → is_marked apart (slice_index place a) (slice_index place b) ≡ are_apart s a b
+  pub separated : (a b : ℕ) → Leads s a → Leads s b → a ≢ b → has apart (slice_index place a) (slice_index place b) ≡ are_apart s a b
   pub inside : fixed ≡ fixed_value s

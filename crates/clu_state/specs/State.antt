@@ -1,9 +1,10 @@
 -- A state: the weights, the closed rules, the members and the decisions on them; its groups, their weights and the free pairs.
-use Rattle.std.specs.Prelude.{◌≡◌, ◌≢◌, ℕ, ◌<◌, ◌≤◌, ◌^◌, min, max, ℤ, pos, ◌≤ℤ◌, List, [], ◌∷◌, ◌++◌, Bool, false, ◌==◌, length, slice_index, All, Contains, if◌then◌else◌}
+use Rattle.std.specs.Prelude.{◌≡◌, ◌≢◌, ℕ, ◌<◌, ◌≤◌, ◌^◌, ℤ, pos, ◌≤ℤ◌, List, [], ◌∷◌, ◌++◌, Bool, false, length, slice_index, All, Contains, if◌then◌else◌}
 use Rattle.clu_partition.specs.Pairs.{Pairs, weight_of, total_of}
 use Rattle.clu_partition.specs.Closed.{Closed, IsClosed, joins}
 use Rattle.clu_partition.specs.Values.{value_on}
 use Rattle.clu_partition.specs.Groups as groups
+pub use Rattle.clu_partition.specs.Groups.{merged}
 use Rattle.clu_state.specs.declared.decision.Decision.{Decision}
 use Rattle.clu_state.specs.declared.decision.Decision.TheVariants.{Together, Apart}
 
@@ -14,10 +15,6 @@ pub record State : Type 0 where
   pub decisions : List Decision
 
 -- ---- the groups
--- the group of u and that of v become one
-abbrev pub merged : (ℕ → ℕ) → ℕ → ℕ → ℕ → ℕ
-merged group u v x = if group x == max (group u) (group v) then min (group u) (group v) else group x
-
 abbrev pub step_group : (ℕ → ℕ) → Decision → ℕ → ℕ
 step_group group (Together u v) = merged group u v
 step_group group (Apart u v) = group

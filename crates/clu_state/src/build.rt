@@ -5,8 +5,7 @@ ghost use Rattle.clu_partition.specs.Sums.{total, pair_total};
 ghost use Rattle.clu_state.specs.Building.{home as home_of, HasHome, HasRoom, ArePlaces, GrownBy, MarkedBy, share, kept, size_between};
 
 use crate::Rebuilt;
-use crate::marks::PairMarks;
-use clu_partition::{PairTable, Start, Vertex};
+use clu_partition::{PairSet, PairTable, Start, Vertex};
 use std::alloc::{AllocError, Global};
 
 impl<'p> Rebuilt<'p> {
@@ -32,7 +31,7 @@ impl<'p> Rebuilt<'p> {
         let count = members.len() as u32;
         let mut weights = PairTable::new(alloc, count)?;
         let fixed = add_all(pairs, &group, &place, &mut weights, members);
-        let mut apart = PairMarks::new(alloc, count)?;
+        let mut apart = PairSet::new(alloc, count)?;
         mark_pairs(start.forbidden(), members, &place, &mut apart);
         Ok(Rebuilt {
             pairs,
@@ -190,7 +189,7 @@ fn is_member(members: &[Vertex], place: &[u32], v: Vertex) -> bool
 }
 
 /// Marks the places of u and v, where both are members.
-fn mark_pair(members: &[Vertex], place: &[u32], marks: &mut PairMarks, u: Vertex, v: Vertex)
+fn mark_pair(members: &[Vertex], place: &[u32], marks: &mut PairSet, u: Vertex, v: Vertex)
     requires first { u < length place.now }
     requires second { v < length place.now }
     requires places { ArePlaces members.now place.now }
@@ -201,11 +200,11 @@ fn mark_pair(members: &[Vertex], place: &[u32], marks: &mut PairMarks, u: Vertex
     if !is_member(members, place, u) || !is_member(members, place, v) {
         return;
     }
-    marks.set(Vertex(place[u.0 as usize]), Vertex(place[v.0 as usize]));
+    marks.put(Vertex(place[u.0 as usize]), Vertex(place[v.0 as usize]));
 }
 
 /// Marks the places of the two members of each of the pairs that have two.
-fn mark_pairs(pairs: &[(Vertex, Vertex)], members: &[Vertex], place: &[u32], marks: &mut PairMarks)
+fn mark_pairs(pairs: &[(Vertex, Vertex)], members: &[Vertex], place: &[u32], marks: &mut PairSet)
     requires pairs { All (λ p. (p.0 < length place.now) × (p.1 < length place.now)) pairs.now }
     requires places { ArePlaces members.now place.now }
     requires size { marks.old.n ≡ length members.now }

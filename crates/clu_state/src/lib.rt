@@ -7,7 +7,6 @@
 
 mod build;
 mod decision;
-mod marks;
 mod rebuilt;
 mod situation;
 

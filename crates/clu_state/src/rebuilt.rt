@@ -4,9 +4,8 @@ ghost use Rattle.clu_state.specs.Rebuilt.{Agrees};
 ghost use Rattle.clu_state.specs.State.{State, CanDecide, decided};
 
 use crate::build::home;
-use crate::marks::PairMarks;
 use crate::{Decision, Situation};
-use clu_partition::{PairTable, Start, Vertex};
+use clu_partition::{PairSet, PairTable, Start, Vertex};
 use std::alloc::AllocError;
 use std::marker::Model;
 
@@ -25,7 +24,7 @@ pub struct Rebuilt<'p> {
     /// The weights between groups, at the places of their least vertices.
     pub(crate) weights: PairTable,
     /// Which groups are apart, at the same places.
-    pub(crate) apart: PairMarks,
+    pub(crate) apart: PairSet,
     /// The weight inside the groups.
     pub(crate) fixed: i128,
 }
@@ -65,7 +64,7 @@ impl<'p> Situation for Rebuilt<'p> {
     fn is_apart(&self, u: Vertex, v: Vertex) -> bool {
         let p = place_of(&self.place, self.group_of(u));
         let q = place_of(&self.place, self.group_of(v));
-        self.apart.get(p, q)
+        self.apart.has(p, q)
     }
 
     fn fixed_value(&self) -> i128 {
@@ -133,7 +132,7 @@ fn join(
     place: &[u32],
     group: &mut [Vertex],
     weights: &mut PairTable,
-    apart: &mut PairMarks,
+    apart: &mut PairSet,
     u: Vertex,
     v: Vertex,
 ) -> i128
@@ -157,7 +156,7 @@ fn join(
 }
 
 /// Marks the groups of `u` and `v` as apart.
-fn separate(place: &[u32], group: &[Vertex], apart: &mut PairMarks, u: Vertex, v: Vertex)
+fn separate(place: &[u32], group: &[Vertex], apart: &mut PairSet, u: Vertex, v: Vertex)
     requires some { (s : State) × (weights : Pairs) × (fixed : ℤ)
         × Agrees s group.now place.now weights apart.old fixed × CanDecide s (Decision.Apart u v) }
     ensures { (s : State) (weights : Pairs) (fixed : ℤ)
@@ -166,7 +165,7 @@ fn separate(place: &[u32], group: &[Vertex], apart: &mut PairMarks, u: Vertex, v
 {
     let p = home(group, place, u);
     let q = home(group, place, v);
-    apart.set(p, q);
+    apart.put(p, q);
 }
 
 /// The members of the group `high` go over to `low`.

@@ -1,28 +1,462 @@
+//! What the checker says of certificates that are worked by hand, and of copies with one place changed.
+ghost use Rattle.std.specs.Prelude.{◌≡◌, ◌≤◌, length};
+
 use super::*;
-use clu_cert::{Item, Proof};
+use clu_cert::{Proof, read_cert};
 use clu_objective::Objective;
 use clu_partition::{PairTable, Seq, Vertex};
-use clu_reduce::{Kind, Step};
-use clu_rows::{Leaf, Row};
-use std::alloc::AllocError;
 use std::process::Abort;
 use std::test::Fail;
 
-/// Gives a pair of vertices a weight.
-fn weigh(rt: &impl Abort, pairs: &mut PairTable, u: u32, v: u32, w: i8) {
-    assert!(rt; u < pairs.n() && v < pairs.n() && u != v);
-    pairs.set(Vertex(u), Vertex(v), w as i128);
+type Answer = Result<Accepted, Reject>;
+
+/// A text, a place in it, what stands there instead, and what the checker says of the copy.
+type Case = (&'static str, &'static str, &'static str, Answer);
+
+/// The five-cycle by one leaf. The edges 1-2 and 3-4 are inside blocks, with 4 together, so the agreement is
+/// 14. The rows' right sides are 1 each and their multipliers 2, so they give 4. They cover four edges and
+/// leave 3-4 with 2: 6, and 16 with the base.
+const CYCLE: &str = "clucert 1
+objective agreement
+vertices 5
+value 14
+bound 16
+blocks 1 1 2 2 3
+steps 0
+parts 1
+part 1 2 3 4 5
+items 1
+leaf 1 2
+row 2 2 / 1 3
+row 2 5 / 1 4
+end
+";
+
+/// The end of that text, from its parts and from its items.
+const PARTS: &str = "parts 1
+part 1 2 3 4 5
+items 1
+leaf 1 2
+row 2 2 / 1 3
+row 2 5 / 1 4
+";
+
+const ITEMS: &str = "items 1
+leaf 1 2
+row 2 2 / 1 3
+row 2 5 / 1 4
+";
+
+/// The five-cycle by a branch with three reductions in each of its subtrees.
+const TREE: &str = "clucert 1
+objective agreement
+vertices 5
+value 14
+bound 14
+blocks 1 1 2 2 3
+steps 0
+parts 1
+part 1 2 3 4 5
+items 8
+branch 1 2
+pair 3 4
+pair 3 5
+leaf 1 0
+pair 1 5
+pair 2 3
+pair 2 4
+leaf 1 0
+end
+";
+
+/// The star by three root steps and the three claws that they leave: 3/2 is at most 1.
+const STAR: &str = "clucert 1
+objective edits
+vertices 4
+value 2
+bound 2
+blocks 1 1 2 3
+steps 3
+light 2 3
+light 2 4
+light 3 4
+parts 1
+part 1 2 3 4
+items 1
+leaf 2 3
+row 1 1 / 2 3
+row 1 1 / 2 4
+row 1 1 / 3 4
+end
+";
+
+/// The star by one row, which covers two of the three edges: it proves 2, and 3 - 2 edits.
+const STAR_ROW: &str = "clucert 1
+objective edits
+vertices 4
+value 3
+bound 0
+blocks 1 2 3 4
+steps 0
+parts 1
+part 1 2 3 4
+items 1
+leaf 1 1
+row 1 1 / 2 3
+end
+";
+
+/// Two triangles and a bridge by root steps, which leave two parts.
+const BRIDGE: &str = "clucert 1
+objective modularity
+vertices 6
+value 70
+bound 70
+blocks 1 1 1 2 2 2
+steps 4
+twin 1 2
+twin 5 6
+pair 1 3
+pair 4 5
+parts 2
+part 1 2 3
+items 1
+leaf 1 0
+part 4 5 6
+items 1
+leaf 1 0
+end
+";
+
+const SHAPE: Answer = Err(Reject::Shape);
+
+const BLOCKS: Answer = Err(Reject::Blocks);
+
+const PART_1: Answer = Err(Reject::Parts { part: 1 });
+
+const ITEM_1: Answer = Err(Reject::Step { item: 1 });
+
+const ITEM_2: Answer = Err(Reject::Step { item: 2 });
+
+const ITEM_3: Answer = Err(Reject::Step { item: 3 });
+
+const UNFINISHED: Answer = Err(Reject::Unfinished { part: 1 });
+
+// Without rows a leaf's bound is the weight inside the groups and that of the free pairs above 0: 10 for
+// the five edges. 1 and 2 together have 2 inside, and 3-4 and 4-5 are left with 2: 6. Apart they leave
+// four edges: 8. With 1 and 2 together 3 and 4 make 4 either way. With 1 and 2 apart, 2 and 3 together
+// have 2 inside and leave 4-5 and 1-5: 6; apart as well, three edges: 6, of which 3 and 4 leave 4 either way.
+const CYCLE_CASES: [Case; 32] = [
+    (
+        CYCLE,
+        "end",
+        "end",
+        Ok(Accepted {
+            value: 14,
+            bound: 16,
+        }),
+    ),
+    (
+        CYCLE,
+        "bound 16",
+        "bound 17",
+        Ok(Accepted {
+            value: 14,
+            bound: 17,
+        }),
+    ),
+    (
+        CYCLE,
+        "bound 16",
+        "bound 15",
+        Err(Reject::Bound { found: 16 }),
+    ),
+    (
+        CYCLE,
+        "value 14",
+        "value 15",
+        Err(Reject::Value { found: 14 }),
+    ),
+    (CYCLE, "blocks 1 1 2 2 3", "blocks 2 2 1 1 3", BLOCKS),
+    (CYCLE, "blocks 1 1 2 2 3", "blocks 1 1 3 3 2", BLOCKS),
+    (CYCLE, "agreement", "edits", SHAPE),
+    (
+        CYCLE,
+        "vertices 5\nvalue 14\nbound 16\nblocks 1 1 2 2 3",
+        "vertices 4\nvalue 14\nbound 16\nblocks 1 1 2 2",
+        SHAPE,
+    ),
+    (CYCLE, "part 1 2 3 4 5", "part 1 2 3 4", PART_1),
+    (CYCLE, "part 1 2 3 4 5", "part 1 3 2 4 5", PART_1),
+    (CYCLE, "part 1 2 3 4 5", "part 1 2 3 4 5 6", PART_1),
+    (CYCLE, PARTS, "parts 0\n", PART_1),
+    (
+        CYCLE,
+        "parts 1\n",
+        "parts 2\npart 1 2 3 4 5\nitems 1\nleaf 1 0\n",
+        Err(Reject::Parts { part: 2 }),
+    ),
+    (CYCLE, "steps 0\n", "steps 1\ntwin 1 2\n", ITEM_1),
+    (CYCLE, "leaf 1 2", "leaf 0 2", Err(Reject::Leaf { item: 1 })),
+    (
+        CYCLE,
+        ITEMS,
+        "items 1\nleaf 1 0\n",
+        Err(Reject::Bound { found: 20 }),
+    ),
+    (
+        CYCLE,
+        ITEMS,
+        "items 3\nbranch 1 2\nleaf 1 0\nleaf 1 0\n",
+        Err(Reject::Bound { found: 18 }),
+    ),
+    (
+        CYCLE,
+        ITEMS,
+        "items 5\nbranch 1 2\nbranch 3 4\nleaf 1 0\nleaf 1 0\nleaf 1 0\n",
+        Err(Reject::Bound { found: 18 }),
+    ),
+    (
+        CYCLE,
+        ITEMS,
+        "items 7\nbranch 1 2\nleaf 1 0\nbranch 2 3\nleaf 1 0\nbranch 3 4\nleaf 1 0\nleaf 1 0\n",
+        Ok(Accepted {
+            value: 14,
+            bound: 16,
+        }),
+    ),
+    (CYCLE, ITEMS, "items 1\nbranch 1 1\n", ITEM_1),
+    (
+        CYCLE,
+        ITEMS,
+        "items 3\nbranch 2 6\nleaf 1 0\nleaf 1 0\n",
+        ITEM_1,
+    ),
+    (CYCLE, ITEMS, "items 2\ntwin 1 2\nleaf 1 0\n", ITEM_1),
+    (
+        CYCLE,
+        ITEMS,
+        "items 5\nbranch 1 2\nbranch 2 1\nleaf 1 0\nleaf 1 0\nleaf 1 0\n",
+        ITEM_2,
+    ),
+    (
+        CYCLE,
+        ITEMS,
+        "items 5\nbranch 1 2\nleaf 1 0\nbranch 1 2\nleaf 1 0\nleaf 1 0\n",
+        ITEM_3,
+    ),
+    (
+        CYCLE,
+        ITEMS,
+        "items 3\nbranch 1 2\nleaf 1 0\nleaf 0 0\n",
+        Err(Reject::Leaf { item: 3 }),
+    ),
+    (CYCLE, ITEMS, "items 0\n", UNFINISHED),
+    (CYCLE, ITEMS, "items 1\nbranch 1 2\n", UNFINISHED),
+    (CYCLE, ITEMS, "items 2\nbranch 1 2\nleaf 1 0\n", UNFINISHED),
+    (
+        CYCLE,
+        ITEMS,
+        "items 4\nbranch 1 2\nleaf 1 0\nleaf 1 0\nleaf 1 0\n",
+        UNFINISHED,
+    ),
+    (CYCLE, "items 1\n", "items 2\nleaf 1 0\n", UNFINISHED),
+    (
+        CYCLE,
+        PARTS,
+        "parts 2\npart 1 2\nitems 1\nleaf 1 0\npart 3 4 5\nitems 1\nleaf 1 0\n",
+        PART_1,
+    ),
+    (
+        CYCLE,
+        "steps 0\nparts 1\npart 1 2",
+        "steps 1\npair 1 2\nparts 1\npart 2 1",
+        ITEM_1,
+    ),
+];
+
+// The step `heavy 4 3` doesn't hold: 4 weighs -4 to the group of 1 and 2, and 2 to 5, which is 6 in all, and
+// 2 to 3 is less.
+const TREE_CASES: [Case; 10] = [
+    (
+        TREE,
+        "end",
+        "end",
+        Ok(Accepted {
+            value: 14,
+            bound: 14,
+        }),
+    ),
+    (TREE, "blocks 1 1 2 2 3", "blocks 2 2 1 1 3", BLOCKS),
+    (
+        TREE,
+        "value 14",
+        "value 15",
+        Err(Reject::Value { found: 14 }),
+    ),
+    (TREE, "pair 3 4", "heavy 4 3", ITEM_2),
+    (TREE, "branch 1 2", "branch 1 1", ITEM_1),
+    (TREE, "part 1 2 3 4 5", "part 1 2 3 4", PART_1),
+    (
+        TREE,
+        "pair 2 4\nleaf 1 0",
+        "pair 2 4\nleaf 0 0",
+        Err(Reject::Leaf { item: 8 }),
+    ),
+    (
+        TREE,
+        "items 8\nbranch 1 2\npair 3 4\npair 3 5\nleaf 1 0\npair 1 5\npair 2 3\npair 2 4\nleaf 1 0\n",
+        "items 4\nbranch 1 2\npair 3 4\npair 3 5\nleaf 1 0\n",
+        UNFINISHED,
+    ),
+    (
+        TREE,
+        "bound 14",
+        "bound 13",
+        Err(Reject::Bound { found: 14 }),
+    ),
+    (
+        TREE,
+        "pair 2 3\npair 2 4",
+        "pair 2 4\npair 2 3",
+        Err(Reject::Step { item: 6 }),
+    ),
+];
+
+// Without its last step the star's leaf proves the same, since the free pair 3-4 weighs -2 and its row takes
+// -1 from it.
+const STAR_CASES: [Case; 9] = [
+    (STAR, "end", "end", Ok(Accepted { value: 2, bound: 2 })),
+    (STAR, "bound 2", "bound 3", Err(Reject::Bound { found: 2 })),
+    (STAR, "light 2 4", "twin 2 4", ITEM_2),
+    (STAR, "light 3 4", "light 3 2", ITEM_3),
+    (
+        STAR,
+        "steps 3\nlight 2 3\nlight 2 4\nlight 3 4",
+        "steps 2\nlight 2 3\nlight 2 4",
+        Ok(Accepted { value: 2, bound: 2 }),
+    ),
+    (STAR_ROW, "end", "end", Ok(Accepted { value: 3, bound: 0 })),
+    (
+        STAR_ROW,
+        "bound 0",
+        "bound 1",
+        Ok(Accepted { value: 3, bound: 1 }),
+    ),
+    (
+        STAR_ROW,
+        "bound 0",
+        "bound 2",
+        Err(Reject::Bound { found: 1 }),
+    ),
+    (TREE, "end", "end", SHAPE),
+];
+
+// 1 and 2 weigh 10, and 8 each to 3; 3 and 4 weigh 5, and all else between the triangles less than 0. So
+// `pair 1 3` holds once 1 and 2 are one group, with 16 to 5, and `heavy 4 5` holds in place of the last step,
+// with 16 to 7.
+const BRIDGE_CASES: [Case; 8] = [
+    (
+        BRIDGE,
+        "end",
+        "end",
+        Ok(Accepted {
+            value: 70,
+            bound: 70,
+        }),
+    ),
+    (
+        BRIDGE,
+        "bound 70",
+        "bound 69",
+        Err(Reject::Bound { found: 70 }),
+    ),
+    (BRIDGE, "twin 1 2", "twin 1 3", ITEM_1),
+    (
+        BRIDGE,
+        "twin 1 2\ntwin 5 6\npair 1 3",
+        "pair 1 3\ntwin 1 2\ntwin 5 6",
+        ITEM_1,
+    ),
+    (BRIDGE, "steps 4\ntwin 1 2\n", "steps 3\n", ITEM_2),
+    (
+        BRIDGE,
+        "pair 4 5",
+        "heavy 4 5",
+        Ok(Accepted {
+            value: 70,
+            bound: 70,
+        }),
+    ),
+    (BRIDGE, "part 1 2 3", "part 1 2", PART_1),
+    (
+        BRIDGE,
+        "part 1 2 3\nitems 1\n",
+        "part 1 2 3\nitems 2\ntwin 1 3\n",
+        Err(Reject::Step { item: 5 }),
+    ),
+];
+
+const RULE_CASES: [Case; 1] = [(
+    TREE,
+    "end",
+    "end",
+    Err(Reject::Rule {
+        u: Vertex(0),
+        v: Vertex(1),
+    }),
+)];
+
+/// Weights, each with the pairs that have it; another pair weighs 0.
+type Weights = &'static [(i8, &'static [(u32, u32)])];
+
+/// 2 on each edge of a cycle of five vertices, -2 on each other pair.
+const CYCLE_WEIGHTS: Weights = &[
+    (2, &[(0, 1), (1, 2), (2, 3), (3, 4), (0, 4)]),
+    (-2, &[(0, 2), (0, 3), (1, 3), (1, 4), (2, 4)]),
+];
+
+/// 1 on each edge of a star of four vertices, -1 on each other pair.
+const STAR_WEIGHTS: Weights = &[
+    (1, &[(0, 1), (0, 2), (0, 3)]),
+    (-1, &[(1, 2), (1, 3), (2, 3)]),
+];
+
+/// Twice the number of the seven edges at each edge, less the product of the degrees, which are 2 but for
+/// the bridge's ends, where they are 3. Their squares are 34 in all.
+const BRIDGE_WEIGHTS: Weights = &[
+    (10, &[(0, 1), (4, 5)]),
+    (8, &[(0, 2), (1, 2), (3, 4), (3, 5)]),
+    (5, &[(2, 3)]),
+    (-6, &[(0, 3), (1, 3), (2, 4), (2, 5)]),
+    (-4, &[(0, 4), (0, 5), (1, 4), (1, 5)]),
+];
+
+/// A table with these weights.
+fn weighed(
+    rt: &impl Abort,
+    alloc: Global,
+    n: u32,
+    weights: Weights,
+) -> Result<PairTable, AllocError>
+    requires { n ≤ 1000 }
+{
+    let mut pairs = PairTable::new(alloc, n)?;
+    for (w, listed) in weights {
+        weigh(rt, &mut pairs, *w, listed);
+    }
+    Ok(pairs)
 }
 
-/// A cycle of five vertices: 2 on each of its edges, -2 on each other pair.
+fn weigh(rt: &impl Abort, pairs: &mut PairTable, w: i8, listed: &[(u32, u32)]) {
+    for (u, v) in listed {
+        assert!(rt; *u < pairs.n() && *v < pairs.n() && *u != *v);
+        pairs.set(Vertex(*u), Vertex(*v), w as i128);
+    }
+}
+
 fn five_cycle(rt: &impl Abort, alloc: Global) -> Result<Problem, AllocError> {
-    let mut pairs = PairTable::new(alloc, 5)?;
-    for (u, v) in [(0, 1), (1, 2), (2, 3), (3, 4), (0, 4)] {
-        weigh(rt, &mut pairs, u, v, 2);
-    }
-    for (u, v) in [(0, 2), (0, 3), (1, 3), (1, 4), (2, 4)] {
-        weigh(rt, &mut pairs, u, v, -2);
-    }
+    let pairs = weighed(rt, alloc, 5, CYCLE_WEIGHTS)?;
     assert_eq!(rt; pairs.n(), 5);
     assert!(rt; pairs.total_abs() <= 20);
     Ok(Problem {
@@ -34,19 +468,8 @@ fn five_cycle(rt: &impl Abort, alloc: Global) -> Result<Problem, AllocError> {
     })
 }
 
-/// A star of four vertices, whose edges are those of the first with each other one.
 fn star(rt: &impl Abort, alloc: Global) -> Result<Problem, AllocError> {
-    let mut pairs = PairTable::new(alloc, 4)?;
-    for (u, v, w) in [
-        (0, 1, 1),
-        (0, 2, 1),
-        (0, 3, 1),
-        (1, 2, -1),
-        (1, 3, -1),
-        (2, 3, -1),
-    ] {
-        weigh(rt, &mut pairs, u, v, w);
-    }
+    let pairs = weighed(rt, alloc, 4, STAR_WEIGHTS)?;
     assert_eq!(rt; pairs.n(), 4);
     assert!(rt; pairs.total_abs() <= 6);
     Ok(Problem {
@@ -58,228 +481,121 @@ fn star(rt: &impl Abort, alloc: Global) -> Result<Problem, AllocError> {
     })
 }
 
-/// What the checker says under rules that bind nothing.
-fn judged(
+fn bridge(rt: &impl Abort, alloc: Global) -> Result<Problem, AllocError> {
+    let pairs = weighed(rt, alloc, 6, BRIDGE_WEIGHTS)?;
+    assert_eq!(rt; pairs.n(), 6);
+    assert!(rt; pairs.total_abs() <= 97);
+    Ok(Problem {
+        objective: Objective::Modularity,
+        pairs,
+        base: -34,
+        factor: 2,
+        scale: 196,
+    })
+}
+
+/// A text with one place changed.
+fn changed(alloc: Global, text: &str, old: &str, new: &str) -> Result<Vec<u8>, Fail> {
+    let (front, back) = text.split_once(old).ok_or("no such place in the text")?;
+    let mut bytes = Vec::new(alloc);
+    bytes.extend_from_slice(front.as_bytes())?;
+    bytes.extend_from_slice(new.as_bytes())?;
+    bytes.extend_from_slice(back.as_bytes())?;
+    Ok(bytes)
+}
+
+/// The certificate of a text with one place changed.
+fn certificate(alloc: Global, text: &str, old: &str, new: &str) -> Result<Certificate, Fail> {
+    let text = changed(alloc, text, old, new)?;
+    let Ok(c) = read_cert(alloc, text.as_slice()) else {
+        return Err(Fail::from("no certificate"));
+    };
+    Ok(c)
+}
+
+/// Whether the checker says this.
+fn is_judged(
+    alloc: Global,
+    problem: &Problem,
+    start: &Start,
+    c: &Certificate,
+    answer: &Answer,
+) -> bool
+    requires { length start.now.group ≡ problem.now.pairs.n }
+{
+    check(alloc, problem, start, c) == *answer
+}
+
+/// Asks that the checker says of each case what it should.
+fn ask(
     rt: &impl Abort,
     alloc: Global,
     problem: &Problem,
-    c: &Certificate,
-) -> Result<Result<Accepted, Reject>, AllocError> {
-    let start = Start::none(alloc, problem.pairs.n())?;
-    assert!(rt; start.n() == problem.pairs.n());
-    Ok(check(alloc, problem, &start, c))
-}
-
-fn vertices(alloc: Global, numbers: &[u32]) -> Result<Seq<Vertex>, AllocError> {
-    let mut list = Seq::new(alloc);
-    for number in numbers {
-        list.push(Vertex(*number))?;
-    }
-    Ok(list)
-}
-
-/// The two-set inequality of one vertex and two others.
-fn row(alloc: Global, s: u32, t: [u32; 2], y: u128) -> Result<Row, AllocError> {
-    Ok(Row {
-        s: vertices(alloc, &[s])?,
-        t: vertices(alloc, &t)?,
-        y,
-    })
-}
-
-/// A leaf that proves 6 for the five-cycle.
-fn cycle_leaf(alloc: Global, den: u64) -> Result<Item, AllocError> {
-    let mut rows = Seq::new(alloc);
-    rows.push(row(alloc, 1, [0, 2], 2)?)?;
-    rows.push(row(alloc, 4, [0, 3], 2)?)?;
-    Ok(Item::Leaf(Leaf { den, rows }))
-}
-
-/// A leaf that proves 2 for the star.
-fn star_leaf(alloc: Global) -> Result<Item, AllocError> {
-    let mut rows = Seq::new(alloc);
-    rows.push(row(alloc, 0, [1, 2], 1)?)?;
-    Ok(Item::Leaf(Leaf { den: 1, rows }))
-}
-
-/// A part with one item.
-fn proof(alloc: Global, part: &[u32], item: Item) -> Result<Proof, AllocError> {
-    let part = vertices(alloc, part)?;
-    let mut items = Seq::new(alloc);
-    items.push(item)?;
-    Ok(Proof { part, items })
-}
-
-/// A certificate of one part.
-fn certificate(
-    alloc: Global,
-    objective: Objective,
-    labels: &[u32],
-    numbers: (i128, i128),
-    proof: Proof,
-) -> Result<Certificate, AllocError> {
-    let mut copied = Seq::new(alloc);
-    for label in labels {
-        copied.push(*label)?;
-    }
-    let mut proofs = Seq::new(alloc);
-    proofs.push(proof)?;
-    Ok(Certificate {
-        objective,
-        labels: copied,
-        value: numbers.0,
-        bound: numbers.1,
-        root_steps: Seq::new(alloc),
-        proofs,
-    })
-}
-
-/// What the checker says of a certificate for the five-cycle with these labels, value and bound, whose
-/// one part has all vertices and one leaf.
-fn of_labels(
-    rt: &impl Abort,
-    alloc: Global,
-    labels: [u32; 5],
-    numbers: (i128, i128),
-) -> Result<Result<Accepted, Reject>, AllocError> {
-    let problem = five_cycle(rt, alloc)?;
-    let proof = proof(alloc, &[0, 1, 2, 3, 4], cycle_leaf(alloc, 1)?)?;
-    let c = certificate(alloc, Objective::Agreement, &labels, numbers, proof)?;
-    judged(rt, alloc, &problem, &c)
-}
-
-/// What it says of one with good labels, these proofs and so many root steps.
-fn of_proofs(
-    rt: &impl Abort,
-    alloc: Global,
-    proofs: Seq<Proof>,
-    steps: usize,
-) -> Result<Result<Accepted, Reject>, AllocError> {
-    let problem = five_cycle(rt, alloc)?;
-    let whole = proof(alloc, &[0, 1, 2, 3, 4], cycle_leaf(alloc, 1)?)?;
-    let mut c = certificate(
-        alloc,
-        Objective::Agreement,
-        &[0, 0, 1, 1, 2],
-        (14, 16),
-        whole,
-    )?;
-    c.proofs = proofs;
-    for _ in 0..steps {
-        c.root_steps.push(Step {
-            kind: Kind::Twin,
-            u: Vertex(0),
-            v: Vertex(1),
-        })?;
-    }
-    judged(rt, alloc, &problem, &c)
-}
-
-/// What it says of one whose one part has these vertices and this item.
-fn of_part(
-    rt: &impl Abort,
-    alloc: Global,
-    part: &[u32],
-    item: Item,
-) -> Result<Result<Accepted, Reject>, AllocError> {
-    let mut proofs = Seq::new(alloc);
-    proofs.push(proof(alloc, part, item)?)?;
-    of_proofs(rt, alloc, proofs, 0)
-}
-
-fn accepted(value: i128, bound: i128) -> Result<Accepted, Reject> {
-    Ok(Accepted { value, bound })
-}
-
-// The edges 0-1 and 2-3 are inside blocks, with 4 together, so the agreement is 14. The rows' right sides
-// are 1 each and their multipliers 2, so they give 4. They cover four edges and leave 2-3 with 2: 6, and 16
-// with the base.
-#[test]
-fn labels_a_value_and_a_bound_are_judged(rt: HostRuntime) -> Result<(), Fail> {
-    let alloc = rt.alloc();
-    for (labels, numbers, answer) in [
-        ([0, 0, 1, 1, 2], (14, 16), accepted(14, 16)),
-        ([0, 0, 1, 1, 2], (14, 17), accepted(14, 17)),
-        ([0, 0, 1, 1, 2], (14, 15), Err(Reject::Bound { found: 16 })),
-        ([0, 0, 1, 1, 2], (15, 16), Err(Reject::Value { found: 14 })),
-        ([1, 1, 0, 0, 2], (14, 16), Err(Reject::Blocks)),
-        ([0, 0, 2, 2, 1], (14, 16), Err(Reject::Blocks)),
-    ] {
-        assert_eq!(rt; of_labels(&rt, alloc, labels, numbers)?, answer);
+    start: &Start,
+    cases: &[Case],
+) -> Result<(), Fail>
+    requires { length start.now.group ≡ problem.now.pairs.n }
+{
+    for (text, old, new, answer) in cases {
+        let c = certificate(alloc, *text, *old, *new)?;
+        assert!(rt;
+            is_judged(alloc, problem, start, &c, answer),
+            "{new} in place of {old}"
+        );
     }
     Ok(())
 }
 
 #[test]
-fn the_shape_is_the_problem_s(rt: HostRuntime) -> Result<(), Fail> {
+fn the_five_cycle_is_judged(rt: HostRuntime) -> Result<(), Fail> {
     let alloc = rt.alloc();
     let problem = five_cycle(&rt, alloc)?;
-    let all = [0, 1, 2, 3, 4];
-    let whole = proof(alloc, &all, cycle_leaf(alloc, 1)?)?;
-    let c = certificate(alloc, Objective::Edits, &[0, 0, 1, 1, 2], (14, 16), whole)?;
-    assert_eq!(rt; judged(&rt, alloc, &problem, &c)?, Err(Reject::Shape));
-    let whole = proof(alloc, &all, cycle_leaf(alloc, 1)?)?;
-    let c = certificate(alloc, Objective::Agreement, &[0, 0, 1, 1], (14, 16), whole)?;
-    assert_eq!(rt; judged(&rt, alloc, &problem, &c)?, Err(Reject::Shape));
-    Ok(())
+    let start = Start::none(alloc, 5)?;
+    assert!(rt; start.n() == problem.pairs.n());
+    ask(&rt, alloc, &problem, &start, &CYCLE_CASES)?;
+    ask(&rt, alloc, &problem, &start, &TREE_CASES)
 }
 
 #[test]
-fn parts_are_judged(rt: HostRuntime) -> Result<(), Fail> {
-    let alloc = rt.alloc();
-    let first = Err(Reject::Parts { part: 1 });
-    let short = of_part(&rt, alloc, &[0, 1, 2, 3], cycle_leaf(alloc, 1)?)?;
-    assert_eq!(rt; short, first);
-    let falling = of_part(&rt, alloc, &[0, 2, 1, 3, 4], cycle_leaf(alloc, 1)?)?;
-    assert_eq!(rt; falling, first);
-    assert_eq!(rt; of_part(&rt, alloc, &[], cycle_leaf(alloc, 1)?)?, first);
-    let beyond = of_part(&rt, alloc, &[0, 1, 2, 3, 4, 5], cycle_leaf(alloc, 1)?)?;
-    assert_eq!(rt; beyond, first);
-    assert_eq!(rt; of_proofs(&rt, alloc, Seq::new(alloc), 0)?, first);
-    let mut twice = Seq::new(alloc);
-    twice.push(proof(alloc, &[0, 1, 2, 3, 4], cycle_leaf(alloc, 1)?)?)?;
-    twice.push(proof(alloc, &[0, 1, 2, 3, 4], cycle_leaf(alloc, 1)?)?)?;
-    assert_eq!(rt;
-        of_proofs(&rt, alloc, twice, 0)?,
-        Err(Reject::Parts { part: 2 })
-    );
-    Ok(())
-}
-
-#[test]
-fn items_are_judged(rt: HostRuntime) -> Result<(), Fail> {
-    let alloc = rt.alloc();
-    let all = [0, 1, 2, 3, 4];
-    let step = Err(Reject::Step { item: 1 });
-    let unfinished = Err(Reject::Unfinished { part: 1 });
-    assert_eq!(rt; of_proofs(&rt, alloc, Seq::new(alloc), 1)?, step);
-    let faulty = of_part(&rt, alloc, &all, cycle_leaf(alloc, 0)?)?;
-    assert_eq!(rt; faulty, Err(Reject::Leaf { item: 1 }));
-    let bound = Item::Branch(Vertex(0), Vertex(0));
-    assert_eq!(rt; of_part(&rt, alloc, &all, bound)?, step);
-    let open_branch = Item::Branch(Vertex(0), Vertex(1));
-    assert_eq!(rt; of_part(&rt, alloc, &all, open_branch)?, unfinished);
-    let mut proofs = Seq::new(alloc);
-    let mut twice = proof(alloc, &all, cycle_leaf(alloc, 1)?)?;
-    twice.items.push(cycle_leaf(alloc, 1)?)?;
-    proofs.push(twice)?;
-    assert_eq!(rt; of_proofs(&rt, alloc, proofs, 0)?, unfinished);
-    Ok(())
-}
-
-// The row covers two of the three edges and its right side is 1, so the leaf proves 2, and 3 - 2 edits.
-#[test]
-fn fewer_edits_are_better(rt: HostRuntime) -> Result<(), Fail> {
+fn the_star_is_judged(rt: HostRuntime) -> Result<(), Fail> {
     let alloc = rt.alloc();
     let problem = star(&rt, alloc)?;
-    for (bound, answer) in [
-        (0, accepted(3, 0)),
-        (1, accepted(3, 1)),
-        (2, Err(Reject::Bound { found: 1 })),
-    ] {
-        let proof = proof(alloc, &[0, 1, 2, 3], star_leaf(alloc)?)?;
-        let c = certificate(alloc, Objective::Edits, &[0, 1, 2, 3], (3, bound), proof)?;
-        assert_eq!(rt; judged(&rt, alloc, &problem, &c)?, answer);
-    }
+    let start = Start::none(alloc, 4)?;
+    assert!(rt; start.n() == problem.pairs.n());
+    ask(&rt, alloc, &problem, &start, &STAR_CASES)
+}
+
+#[test]
+fn two_triangles_and_a_bridge_are_judged(rt: HostRuntime) -> Result<(), Fail> {
+    let alloc = rt.alloc();
+    let problem = bridge(&rt, alloc)?;
+    let start = Start::none(alloc, 6)?;
+    assert!(rt; start.n() == problem.pairs.n());
+    ask(&rt, alloc, &problem, &start, &BRIDGE_CASES)
+}
+
+#[test]
+fn a_forbidden_pair_in_a_block_is_named(rt: HostRuntime) -> Result<(), Fail> {
+    let alloc = rt.alloc();
+    let problem = five_cycle(&rt, alloc)?;
+    let Ok(start) = Start::tied(alloc, 5, &[], &[(Vertex(0), Vertex(1))]) else {
+        return Err(Fail::from("no start"));
+    };
+    assert!(rt; start.n() == problem.pairs.n());
+    ask(&rt, alloc, &problem, &start, &RULE_CASES)
+}
+
+#[test]
+fn a_part_without_vertices_is_refused(rt: HostRuntime) -> Result<(), Fail> {
+    let alloc = rt.alloc();
+    let problem = five_cycle(&rt, alloc)?;
+    let start = Start::none(alloc, 5)?;
+    assert!(rt; start.n() == problem.pairs.n());
+    let mut c = certificate(alloc, CYCLE, PARTS, "parts 0\n")?;
+    c.proofs.push(Proof {
+        part: Seq::new(alloc),
+        items: Seq::new(alloc),
+    })?;
+    assert!(rt; is_judged(alloc, &problem, &start, &c, &PART_1));
     Ok(())
 }

@@ -15,4 +15,4 @@ returns-clause-none_better c =
       few =
           c.in_ok-check_blocks.ensures.few;
     })
-    c.in_ok-check_parts.ensures.ok c.in_ok-check_bound.ensures.ok
+    c.in_ok-owner.ensures.ok c.in_ok-check_bound.ensures.ok

@@ -1,8 +1,9 @@
 use Rattle.std.proofs.Common.{◌≡◌, ◌∙◌, ◌≤◌, ◌+◌, ◌++◌, ℕ, List, [], All, Contains, length, sym, ap, subst, arith}
 use Rattle.clu_state.specs.State.{leader}
 use Rattle.clu_rows.specs.Rows.{TwoSet}
-use Rattle.clu_rows.specs.Faults.{NamesOnce}
-use Rattle.clu_rows.proofs.FaultLaws.{row_holds, row_has, few_members}
+use Rattle.clu_partition.specs.Groups.{NamesOnce}
+use Rattle.clu_state.proofs.Bounds.{few_members}
+use Rattle.clu_rows.proofs.FaultLaws.{row_holds, row_has}
 use Rattle.clu_rows.proofs.faults.is_row.Goals as goal
 use Rattle.std.proofs.lemmas.Bool.{false≢true}
 

@@ -1,6 +1,6 @@
 use Rattle.std.proofs.Common.{◌++◌, drop}
 use Rattle.clu_state.specs.State.{leader}
-use Rattle.clu_rows.specs.Faults.{NamesOnce}
+use Rattle.clu_partition.specs.Groups.{NamesOnce}
 use Rattle.clu_rows.proofs.faults.names_differ.Given as goal
 
 abbrev pub invariant-loop-i : goal.invariant-loop-i

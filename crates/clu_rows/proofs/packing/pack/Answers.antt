@@ -1,7 +1,8 @@
 use Rattle.std.proofs.Common.{arith, ◌∙◌}
 use Rattle.clu_rows.proofs.PackSizes.{pack_size}
 use Rattle.clu_rows.proofs.Sound.{packing_rows}
-use Rattle.clu_rows.proofs.Maximal.{maximal, few_groups}
+use Rattle.clu_state.proofs.Bounds.{few_groups}
+use Rattle.clu_rows.proofs.Maximal.{maximal}
 use Rattle.clu_rows.proofs.packing.pack.Goals as goal
 
 pub overflow_cast-groups : goal.overflow_cast-groups

@@ -4,7 +4,7 @@ use Rattle.std.proofs.lemmas.Int.{ints}
 use Rattle.clu_partition.specs.Sums.{pair_total}
 use Rattle.clu_partition.specs.Closed.{joins}
 use Rattle.clu_state.specs.Building.{ArePlaces, size_between}
-use Rattle.clu_state.specs.Marks.{is_marked}
+use Rattle.clu_partition.specs.PairSets.{has}
 use Rattle.clu_state.proofs.Built.{few_members, homes, sizes_small, empty_room, undecided_state, built, built_as}
 use Rattle.clu_state.proofs.rebuilt.Rebuilt.new.Goals as goal
 
@@ -40,6 +40,6 @@ invariant_of-result c =
     (ap length c.deref-2.ensures.value ∙ c.in_ok-place.ensures.size ∙ c.n.ensures.value)
     (subst (ArePlaces c.args.members.now) (sym c.deref-2.ensures.value) c.in_ok-place.ensures.places)
     c.in_ok-weights.ensures.size c.in_ok-weights.ensures.zero c.add_all-fixed.ensures.size c.add_all-fixed.ensures.sums c.add_all-fixed.ensures.inside
-    c.in_ok-apart.ensures.size c.in_ok-apart.ensures.unset c.mark_pairs.ensures.size
-    (λ x z lx lz. c.mark_pairs.ensures.marked x z lx lz ∙ ap (λ (ps : _). joins (λ v. v) ps (slice_index c.args.members.now x) (slice_index c.args.members.now z) || is_marked c.in_ok-apart.apart x z) c.forbidden.ensures))
+    c.in_ok-apart.ensures.size c.in_ok-apart.ensures.none c.mark_pairs.ensures.size
+    (λ x z lx lz. c.mark_pairs.ensures.marked x z lx lz ∙ ap (λ (ps : _). joins (λ v. v) ps (slice_index c.args.members.now x) (slice_index c.args.members.now z) || has c.in_ok-apart.apart x z) c.forbidden.ensures))
     c.in_ok-copy.ensures c.new-3.ensures.items c.deref.ensures.value c.deref-2.ensures.value wk
