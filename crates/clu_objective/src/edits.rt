@@ -1,3 +1,6 @@
+//! Cluster editing as pair weights of a clique partitioning problem, after Groetschel and Wakabayashi
+//! (1989): an edge weighs 1, another pair -1. One look at the graph's table for each pair.
+
 ghost use Rattle.std.specs.Prelude.{◌≡◌, ◌<◌, ◌≤◌, ◌^◌, ℕ, IfOk, length};
 ghost use Rattle.clu_partition.specs.Pairs.{weight_of, IsTable};
 ghost use Rattle.clu_objective.specs.Edits.{edge_weight, PosesEdits, PrintsEdits};
@@ -24,6 +27,7 @@ pub fn pairs_of_graph(alloc: Global, graph: &Graph) -> Result<Problem, AllocErro
     })
 }
 
+/// The number of edges.
 fn count(edges: &[(Vertex, Vertex)]) -> usize
     ensures count { result ≡ length edges.now }
     ensures small { result < 2 ^ 63 }
@@ -64,41 +68,5 @@ fn weigh_row(graph: &Graph, pairs: &mut PairTable, u: u32)
             -1
         };
         pairs.set(Vertex(u), Vertex(v), weight);
-    }
-}
-
-#[cfg(test)]
-mod tests {
-    use super::*;
-    use clu_pace::read_pace;
-    use clu_partition::Partition;
-    use std::test::Fail;
-
-    // A path of three vertices: two edges, and one pair without an edge.
-    #[test]
-    fn edits_are_the_edges_less_the_weights_inside(rt: HostRuntime) -> Result<(), Fail> {
-        let alloc = rt.alloc();
-        let graph = read_pace(alloc, b"p cep 3 2\n1 2\n2 3\n")?;
-        let problem = pairs_of_graph(alloc, &graph)?;
-        assert_eq!(rt; problem.pairs.get(Vertex(0), Vertex(1)), 1);
-        assert_eq!(rt; problem.pairs.get(Vertex(2), Vertex(1)), 1);
-        assert_eq!(rt; problem.pairs.get(Vertex(0), Vertex(2)), -1);
-        assert_eq!(rt; (problem.base, problem.factor, problem.scale), (2, -1, 1));
-        for (labels, edits) in [
-            ([0, 1, 2], 2),
-            ([0, 0, 1], 1),
-            ([0, 0, 0], 1),
-            ([0, 1, 0], 3),
-        ] {
-            let partition = Partition::from_labels(alloc, &labels)?;
-            let value = partition.value(&problem.pairs);
-            assert!(rt; -3 <= value);
-            assert!(rt; value <= 3);
-            assert_eq!(rt; problem.printed(value), edits);
-        }
-        assert!(rt; problem.better_or_equal(1, 2));
-        assert!(rt; problem.better_or_equal(2, 2));
-        assert!(rt; !problem.better_or_equal(3, 2));
-        Ok(())
     }
 }

@@ -1,11 +1,13 @@
+//! What partitions are judged by.
+
 /// What a partition is judged by.
 #[derive(Clone, Copy, Debug, PartialEq, Eq)]
 pub enum Objective {
     /// The edges between blocks and the pairs without an edge inside blocks. Fewer are better.
     Edits,
-    /// The positive weights inside blocks and the absolute negative weights between blocks. More is
-    /// better.
+    /// The positive weights of pairs inside blocks and the absolute negative ones between blocks. More
+    /// is better.
     Agreement,
-    /// The modularity of Newman and Girvan, scaled to a whole number. More is better.
+    /// The modularity of Newman and Girvan, times the square of twice the total weight. More is better.
     Modularity,
 }

@@ -1,3 +1,6 @@
+//! Problems of clustering, seen as clique partitioning after Groetschel and Wakabayashi (1989): pair
+//! weights, and how the objective of a partition comes from those inside its blocks.
+
 ghost use Rattle.std.specs.Prelude.{◌≡◌, ◌≤◌, ◌↔◌, ◌^◌, IsTrue, unsigned_abs};
 ghost use Rattle.clu_objective.specs.Problem.{printed, IsBetterOrEqual};
 

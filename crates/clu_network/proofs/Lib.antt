@@ -1,0 +1,9 @@
+pub mod NameLaws
+pub mod TextLaws
+pub mod LineReading
+pub mod LoopReading
+pub mod ReadLaws
+pub mod Scaled
+pub mod Whole
+pub mod Exclusive
+pub mod OneNetwork

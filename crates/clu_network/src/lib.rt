@@ -1,0 +1,20 @@
+//! Networks of weighted lines, and the reader of edge lists.
+//!
+//! The crates above use this: `read_network` answers the one network of a text exactly where the
+//! bytes are one of at most 1,000 names, and else the first line that fails with its cause; a
+//! `Network` is its names, its places and its list of lines. The definitions stand in
+//! `specs/Network.antt`, `specs/NameList.antt`, `specs/Entries.antt`, `specs/Reading.antt` and
+//! `specs/Scaling.antt`.
+#![tactic(auto)]
+
+mod entry;
+mod error;
+mod names;
+mod network;
+mod reader;
+#[cfg(test)]
+mod tests;
+
+pub use error::NetError;
+pub use network::{NetLine, Network};
+pub use reader::read_network;
