@@ -1,0 +1,5 @@
+pub mod Lines
+pub mod Rules
+pub mod Reading
+pub mod Puts
+pub mod Closing
