@@ -1,0 +1,7 @@
+pub mod Front
+pub mod Tests
+pub mod Complete
+pub mod Places
+pub mod Beats
+pub mod Found
+pub mod Different

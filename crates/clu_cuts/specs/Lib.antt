@@ -1,0 +1,4 @@
+pub mod Point
+pub mod Stars
+pub mod Cuts
+pub mod Shares

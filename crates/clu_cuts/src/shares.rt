@@ -1,0 +1,73 @@
+//! The shares of a point as a table by the places of the groups, so that a search reads each in
+//! one step.
+//!
+//! Sound since the groups' list rises: a group is found in it by halving, and no two places have
+//! one group.
+
+ghost use Rattle.std.specs.Prelude.{◌≡◌, ◌<◌, ◌≤◌, ◌≤ℤ◌, ◌^◌, ℕ, pos, length, slice_index, Contains, IfOk};
+ghost use Rattle.clu_state.specs.State.{IsState, State, group_leaders};
+ghost use Rattle.clu_cuts.specs.Point.{IsPoint, share};
+ghost use Rattle.clu_cuts.specs.Shares.{AreShares};
+
+use crate::point::Point;
+use clu_partition::{Residual, Vertex};
+use clu_state::Situation;
+use std::alloc::{AllocError, Global};
+
+/// The table of shares by the places of the groups.
+pub(crate) fn table_of<S: Situation>(
+    alloc: Global,
+    _state: &S,
+    groups: &[Vertex],
+    point: &Point,
+) -> Result<Residual, AllocError>
+    requires valid { IsState (S.state _state.now) }
+    requires leaders { groups.now ≡ group_leaders (S.state _state.now) }
+    requires point { IsPoint (S.state _state.now) point.now }
+    requires common { point.now.den ≤ℤ pos (2 ^ 100) }
+    ensures { IfOk result (λ table. AreShares groups.now point.now table) }
+{
+    let mut table = Residual::new(alloc, groups.len() as u32)?;
+    let pairs = point.pairs.as_slice();
+    let x = point.x.as_slice();
+    for k in (0..pairs.len()).rev() {
+        let i = place_in(groups, pairs[k].0);
+        let j = place_in(groups, pairs[k].1);
+        table.set(i, j, x[k]);
+    }
+    Ok(table)
+}
+
+/// The share of the groups at two places.
+pub(crate) fn share_at(
+    groups: &[Vertex],
+    _point: &Point,
+    shares: &Residual,
+    i: usize,
+    j: usize,
+) -> i128
+    requires i { i < length groups.now }
+    requires j { j < length groups.now }
+    requires some { (s : State) × IsPoint s _point.now }
+    requires shares { AreShares groups.now _point.now shares.now }
+    ensures value { result ≡ share _point.now (slice_index groups.now i) (slice_index groups.now j) }
+    ensures least { pos 0 ≤ℤ result }
+    ensures most { result ≤ℤ _point.now.den }
+{
+    let _groups = groups;
+    shares.get(i, j)
+}
+
+/// The place of a group's least vertex in their list, which rises.
+fn place_in(groups: &[Vertex], v: Vertex) -> usize
+    requires rising { (i j : ℕ) → i < j → j < length groups.now
+        → slice_index groups.now i < slice_index groups.now j }
+    requires listed { Contains groups.now v }
+    ensures within { result < length groups.now }
+    ensures at { slice_index groups.now result ≡ v }
+{
+    match groups.binary_search_by_key(&v.0, |m| m.0) {
+        Ok(i) => i,
+        Err(_) => unreachable!(),
+    }
+}
