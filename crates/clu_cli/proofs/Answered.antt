@@ -1,5 +1,5 @@
 -- The edits of a partition are its printed number, and so the printed bound is one of edits.
-use Rattle.std.proofs.Common.{◌≡◌, ◌↔◌, ℕ, ℤ, pos, ◌≤ℤ◌, List, Bool, true, false, IsTrue, All, slice_index, refl, sym, ◌∙◌, ap, subst, arith, if◌then◌else◌}
+use Rattle.std.proofs.Common.{◌≡◌, ◌↔◌, ℕ, ℤ, pos, ◌≤◌, ◌≤ℤ◌, List, Bool, true, false, IsTrue, All, slice_index, refl, sym, ◌∙◌, ap, subst, arith, if◌then◌else◌}
 use Rattle.std.proofs.lemmas.List.Elements.{All-nil}
 use Rattle.clu_partition.specs.Closed.{Closed, IsOpen, IsPermitted}
 use Rattle.clu_partition.specs.Pairs.{weight_of}
@@ -20,6 +20,11 @@ module _ (graph : PaceGraph) (problem : Posed) (poses : PosesEdits graph problem
       (others : List ℕ) → IsPartition graph.n others → bound ≤ℤ pos (edits graph others)
   none_fewer bound h others _ = subst (λ (z : ℤ). bound ≤ℤ z) (value_edits others)
       (subst (λ (o : Objective). IsBetterOrEqual o bound (printed problem (value_on (weight_of problem.pairs) (slice_index others) (below problem.pairs.n)))) poses.objective (h others))
+
+-- the status is 0 or 1
+pub at_most_one : (b : Bool) → (if b then 0 else 1) ≤ 1
+at_most_one true = omega arith
+at_most_one false = omega arith
 
 -- the status is 0 exactly where the test holds
 pub zero_where : (b : Bool) (P : Type 0) → IsTrue b ↔ P → (◌≡◌ {A = ℕ} (if b then 0 else 1) 0) ↔ P

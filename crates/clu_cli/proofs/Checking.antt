@@ -11,7 +11,7 @@ use Rattle.clu_cert.specs.Fits.{Fits}
 use Rattle.clu_cert.specs.Text.{text}
 use Rattle.clu_cert.specs.Valid.{IsValid}
 use Rattle.clu_cert.specs.declared.certificate.Certificate.{Certificate}
-use Rattle.clu_cli.specs.Steps.{NoneCertifies}
+use Rattle.clu_cli.specs.Headline.{NoneCertifies}
 
 -- what a test tells apart isn't equal
 pub not_equal : {X : Type 0} (eq : X → X → Bool) (x y : X) (answer : Bool) → answer ≡ eq x y → answer ≡ false → eq y y ≡ true → x ≡ y → ⊥

@@ -1,6 +1,6 @@
 -- The command and the files decide the status: each cause excludes the others.
 use Rattle.std.proofs.Common.{◌≡◌, ℕ, ◌≤◌, ◌<◌, List, length, refl, sym, ◌∙◌, subst, arith, inl, inr, Option, Some, None, Bool, true, false, Ok, Err}
-use Rattle.std.specs.Prelude.{Result, IfSome, IsSomeAnd, String, if◌then◌else◌}
+use Rattle.std.specs.Prelude.{Result, IfErr, IfSome, IsSomeAnd, String, if◌then◌else◌}
 use Rattle.std.specs.Global.{Global}
 use Rattle.clu_outside.specs.Folder.{Told, Holds, HoldsMore, Lacks}
 use Rattle.clu_partition.specs.Closed.{Closed, IsOpen}
@@ -13,8 +13,9 @@ use Rattle.clu_cert.specs.Text.{text}
 use Rattle.clu_cert.specs.declared.certificate.Certificate.{Certificate}
 use Rattle.clu_search.specs.Count.{count}
 use Rattle.clu_search.specs.Outcome.{branchings_of}
-use Rattle.clu_cli.specs.Headline.{Certifies, Ends, IsAbsent, IsAnswer, IsCompletable, IsCutShort, IsDecided, IsGraph, IsLoaded, IsProven, IsRefused, IsSolvable, IsTooLong, IsTurnedDown, Prints, Reports, max_bytes}
-use Rattle.clu_cli.specs.Status.{end_status}
+use Rattle.clu_cli.specs.Headline.{Certifies, Ends, IsAbsent, IsAnswer, IsCompletable, IsCutShort, IsDecided, IsGraph, IsLoaded, IsProven, IsRefused, IsSolvable, IsTooLong, IsTurnedDown, IsTurnedDownBy, Prints, Reports, StopsAbsent, StopsTurnedDown, TellsFault, max_bytes}
+use Rattle.clu_outside.specs.Sink.{TakesSome}
+use Rattle.clu_cli.specs.Status.{end_status, stop_line}
 use Rattle.clu_cli.specs.Words.{Asked, Command, solve, check, graph_file}
 use Rattle.clu_cli.specs.declared.stop.Stop.{Stop}
 use Rattle.clu_cli.specs.declared.stop.Stop.TheVariants.{BadText, Rejected, Refused, Words, ReadFault, WriteFault, Memory, TooLong, NoFile}
@@ -39,6 +40,17 @@ no_check file name other certificate limit e = cc
 
 same_file : (file other : List ℕ) (certificate given : Option (List ℕ)) (limit most : ℕ) → solve file certificate limit ≡ solve other given most → other ≡ file
 same_file file other certificate given limit most e = cc
+
+-- what was found turns the certificate down
+turned_down_of : (command : Command) (told : Option Told) (stop : Stop) → IsTurnedDownBy command told stop → IsTurnedDown command told
+turned_down_of (solve file certificate limit) told stop h = absurd h
+turned_down_of (check file name) told stop h = (h.0, h.1, h.2, h.3, h.4)
+
+-- which file is missing
+absent_of : (command : Command) (told after : Option Told) (old new : Option (List ℕ)) → StopsAbsent command told after old new → IsAbsent command told
+absent_of (solve file certificate limit) told after old new h = h.0
+absent_of (check file name) told after old new (inl h) = inl h.0
+absent_of (check file name) told after old new (inr h) = inr (h.0, h.1, h.2)
 
 -- the graph is one, and the certificate's file is there
 abbrev IsReady : Told → Command → Type 0
@@ -273,15 +285,15 @@ module _ (t : Told) where
     decided_of : (end : Result Bool Stop) → Ends command (Some t) after old new end → IsDecided command (Some t) (end_status end)
     decided_of (Ok true) h = printed_decided true (omega arith) h
     decided_of (Ok false) h = printed_decided false (omega arith) h
-    decided_of (Err (BadText line)) h = turned_down_decided h.0
-    decided_of (Err (Rejected reject)) h = turned_down_decided h.0
+    decided_of (Err (BadText line)) h = turned_down_decided (turned_down_of command (Some t) (BadText line) h.0)
+    decided_of (Err (Rejected reject)) h = turned_down_decided (turned_down_of command (Some t) (Rejected reject) h.0)
     decided_of (Err Refused) h = refused_decided h.0
     decided_of (Err Words) h = absurd h
     decided_of (Err ReadFault) h = read_fault_decided
     decided_of (Err WriteFault) h = write_fault_decided h
     decided_of (Err Memory) h = memory_decided
     decided_of (Err TooLong) h = too_long_decided h.0
-    decided_of (Err NoFile) h = absent_decided h.0
+    decided_of (Err NoFile) h = absent_decided (absent_of command (Some t) after old new h)
 
 pub decided_where_told : (words : List (String Global)) (told after : Option Told) (old new : Option (List ℕ)) (end : Result Bool Stop) (status : ℕ)
     → status ≡ end_status end → Asked words (λ command. Ends command told after old new end)
@@ -289,3 +301,34 @@ pub decided_where_told : (words : List (String Global)) (told after : Option Tol
 decided_where_told words None after old new end status is ends = tt
 decided_where_told words (Some t) after old new end status is ends = λ command asked.
     subst (λ (n : ℕ). IsDecided command (Some t) n) (sym is) (decided_of t command after old new end (ends command asked))
+
+-- ---- the certificate that is turned down
+module _ (words : List (String Global)) (told after : Option Told) (out written : Option (List ℕ)) where
+  pub stops_turned_down : (end : Result Bool Stop) (status : ℕ) → status ≡ end_status end → Asked words (λ command. Ends command told after out written end)
+      → status ≡ 3 → Asked words (λ command. StopsTurnedDown command told after out written)
+  stops_turned_down (Ok true) status is ends three = absurd (omega (arith, is, three))
+  stops_turned_down (Ok false) status is ends three = absurd (omega (arith, is, three))
+  stops_turned_down (Err (BadText line)) status is ends three = λ command asked. let h = ends command asked in (turned_down_of command told (BadText line) h.0, h.1)
+  stops_turned_down (Err (Rejected found)) status is ends three = λ command asked. let h = ends command asked in (turned_down_of command told (Rejected found) h.0, h.1)
+  stops_turned_down (Err Refused) status is ends three = absurd (omega (arith, is, three))
+  stops_turned_down (Err Words) status is ends three = absurd (omega (arith, is, three))
+  stops_turned_down (Err ReadFault) status is ends three = absurd (omega (arith, is, three))
+  stops_turned_down (Err WriteFault) status is ends three = absurd (omega (arith, is, three))
+  stops_turned_down (Err Memory) status is ends three = absurd (omega (arith, is, three))
+  stops_turned_down (Err TooLong) status is ends three = absurd (omega (arith, is, three))
+  stops_turned_down (Err NoFile) status is ends three = absurd (omega (arith, is, three))
+
+  pub tells_fault : (old new : Option (List ℕ)) (end : Result Bool Stop) (status : ℕ) → status ≡ end_status end
+      → Asked words (λ command. Ends command told after out written end) → IfErr end (λ stop. TakesSome old new (stop_line stop))
+      → status ≡ 3 → Asked words (λ command. TellsFault command told old new)
+  tells_fault old new (Ok true) status is ends line three = absurd (omega (arith, is, three))
+  tells_fault old new (Ok false) status is ends line three = absurd (omega (arith, is, three))
+  tells_fault old new (Err (BadText bad)) status is ends line three = λ command asked. record { stop = BadText bad; found = (ends command asked).0; taken = line }
+  tells_fault old new (Err (Rejected found)) status is ends line three = λ command asked. record { stop = Rejected found; found = (ends command asked).0; taken = line }
+  tells_fault old new (Err Refused) status is ends line three = absurd (omega (arith, is, three))
+  tells_fault old new (Err Words) status is ends line three = absurd (omega (arith, is, three))
+  tells_fault old new (Err ReadFault) status is ends line three = absurd (omega (arith, is, three))
+  tells_fault old new (Err WriteFault) status is ends line three = absurd (omega (arith, is, three))
+  tells_fault old new (Err Memory) status is ends line three = absurd (omega (arith, is, three))
+  tells_fault old new (Err TooLong) status is ends line three = absurd (omega (arith, is, three))
+  tells_fault old new (Err NoFile) status is ends line three = absurd (omega (arith, is, three))

@@ -1,56 +1,46 @@
 -- How a command ends, from what its steps tell.
-use Rattle.std.proofs.Common.{◌≡◌, ℕ, ◌+◌, ◌≤◌, List, length, refl, sym, ◌∙◌, ap, subst, arith, inl, inr, Option, Some, None, Bool, Ok, Err}
-use Rattle.std.specs.Prelude.{if◌then◌else◌, Result, IsErrAnd}
+use Rattle.std.proofs.Common.{◌≡◌, ℕ, ◌≤◌, List, length, refl, sym, ◌∙◌, ap, subst, arith, inl, inr, Option, Some, None, Bool, Ok, Err}
+use Rattle.std.specs.Prelude.{◌⊎◌, if◌then◌else◌, Result, IsErrAnd}
 use Rattle.clu_outside.specs.Counts.{last_count}
-use Rattle.clu_outside.specs.Folder.{Told, one_call_later, Holds, Lacks, IsStored, IsStoredPartly, CallsWithin, stores_of}
+use Rattle.clu_outside.specs.Folder.{Told, after_load, Holds, Lacks, IsStored, IsStoredPartly, CallsWithin, stores_of}
 use Rattle.clu_outside.specs.Sink.{TakesSome, with_bytes}
 use Rattle.clu_pace.specs.Graph.{PaceGraph}
 use Rattle.clu_pace.specs.Pace.{IsAccepted}
 use Rattle.clu_cert.specs.Text.{text}
 use Rattle.clu_cert.specs.declared.certificate.Certificate.{Certificate}
-use Rattle.clu_cli.specs.Headline.{Ends, IsAnswer, IsGraph, IsProofOf, IsTurnedDown, KeepsFiles, Reports, Stores, StoresPartly, Untouched, max_bytes}
-use Rattle.clu_cli.specs.Steps.{IsKept, NoneCertifies, StopsCheck, StopsKeeping, StopsLoad, StopsWrite}
+use Rattle.clu_cli.specs.Headline.{Ends, FindsFault, HoldsNoGraph, IsGraph, IsProofOf, IsTurnedDownBy, NoneCertifies, Reports, Stores, StoresPartly, StopsAfter, max_bytes}
+use Rattle.clu_cli.specs.Steps.{Answers, IsKept, IsOnlyGraph, StopsCheck, StopsGraph, StopsKeeping, StopsLoad, StopsWrite}
 use Rattle.clu_cli.specs.Words.{Command, solve, check, graph_file}
 use Rattle.clu_cli.specs.declared.stop.Stop.{Stop}
 use Rattle.clu_cli.specs.declared.stop.Stop.TheVariants.{BadText, Rejected, Refused, Words, ReadFault, WriteFault, Memory, TooLong, NoFile}
 
 -- ---- over one load
-stored_from : (old new : Option Told) (name bytes : List ℕ) → IsStored (one_call_later old) new name bytes → IsStored old new name bytes
-stored_from None None name bytes h = tt
-stored_from None (Some now) name bytes h = absurd h
-stored_from (Some before) None name bytes h = absurd h
-stored_from (Some before) (Some now) name bytes h = record { whole = h.whole; others = h.others }
+lacks_from : (old : Option Told) (file name : List ℕ) → Lacks (after_load file old) name → Lacks old name
+lacks_from None file name h = tt
+lacks_from (Some before) file name h = h
 
-partly_from : (old new : Option Told) (name bytes : List ℕ) → IsStoredPartly (one_call_later old) new name bytes → IsStoredPartly old new name bytes
-partly_from None None name bytes h = tt
-partly_from None (Some now) name bytes h = absurd h
-partly_from (Some before) None name bytes h = absurd h
-partly_from (Some before) (Some now) name bytes h = record { count = h.count; within = h.within; partly = h.partly; others = h.others }
+holds_from : (old : Option Told) (file name bytes : List ℕ) → Holds (after_load file old) name bytes → Holds old name bytes
+holds_from None file name bytes h = tt
+holds_from (Some before) file name bytes h = h
 
-within_from : (old new : Option Told) (most : ℕ) → CallsWithin most (one_call_later old) new → CallsWithin (1 + most) old new
-within_from None None most h = tt
-within_from None (Some now) most h = absurd h
-within_from (Some before) None most h = absurd h
-within_from (Some before) (Some now) most h = (omega (arith, h.0, h.1), omega (arith, h.0, h.1))
+-- ---- after how many loads
+stops_unloaded : (command : Command) (before after : Option Told) (old new : Option (List ℕ)) → after ≡ before → new ≡ old → StopsAfter command 0 before after old new
+stops_unloaded (solve file certificate limit) before after old new is same =
+    record { loaded = record { few = omega arith; told = is; graph = λ two. absurd (omega (arith, two)) }; unwritten = same }
+stops_unloaded (check file name) before after old new is same =
+    record { loaded = record { few = omega arith; told = is; graph = λ two. absurd (omega (arith, two)) }; unwritten = same }
 
-lacks_from : (old : Option Told) (name : List ℕ) → Lacks (one_call_later old) name → Lacks old name
-lacks_from None name h = tt
-lacks_from (Some before) name h = h
+stops_once : (command : Command) (before after : Option Told) (old new : Option (List ℕ)) → after ≡ after_load (graph_file command) before → new ≡ old
+    → StopsAfter command 1 before after old new
+stops_once (solve file certificate limit) before after old new is same =
+    record { loaded = record { few = omega arith; told = is; graph = λ two. absurd (omega (arith, two)) }; unwritten = same }
+stops_once (check file name) before after old new is same =
+    record { loaded = record { few = omega arith; told = is; graph = λ two. absurd (omega (arith, two)) }; unwritten = same }
 
-holds_from : (old : Option Told) (name bytes : List ℕ) → Holds (one_call_later old) name bytes → Holds old name bytes
-holds_from None name bytes h = tt
-holds_from (Some before) name bytes h = h
-
-once : (old new : Option Told) → new ≡ one_call_later old → KeepsFiles 1 old new
-once old new is = record { calls = 1; few = omega arith; kept = is }
-
-pub untouched_once : (before after : Option Told) (old new : Option (List ℕ)) → after ≡ one_call_later before → new ≡ old → Untouched before after old new
-untouched_once before after old new is same = record { files = record { calls = 1; few = omega arith; kept = is }; unwritten = same }
-
-untouched_twice : (before mid after : Option Told) (old new : Option (List ℕ)) → mid ≡ one_call_later before → after ≡ one_call_later mid → new ≡ old
-    → Untouched before after old new
-untouched_twice before mid after old new is next same =
-    record { files = record { calls = 2; few = omega arith; kept = next ∙ ap one_call_later is }; unwritten = same }
+stops_twice : (file name : List ℕ) (before mid after : Option Told) (old new : Option (List ℕ)) (graph : PaceGraph) → IsGraph file before graph
+    → mid ≡ after_load file before → after ≡ after_load name mid → new ≡ old → StopsAfter (check file name) 2 before after old new
+stops_twice file name before mid after old new graph here is next same =
+    record { loaded = record { few = omega arith; told = next ∙ ap (after_load name) is; graph = λ _. (graph, here) }; unwritten = same }
 
 -- a stop that a step hands on
 pub passed : (command : Command) (before after : Option Told) (old new : Option (List ℕ)) (stop : Stop) (result : Result Bool Stop)
@@ -59,35 +49,36 @@ passed command before after old new stop (Ok x) is h = absurd is
 passed command before after old new stop (Err y) is h = subst (λ (s : Stop). Ends command before after old new (Err s)) (sym is) h
 
 -- ---- the graph's file
-pub ends_unloaded : (command : Command) (before after : Option Told) (old new : Option (List ℕ)) (stop : Stop) → StopsLoad before (graph_file command) max_bytes stop
-    → after ≡ one_call_later before → new ≡ old → Ends command before after old new (Err stop)
-ends_unloaded command before after old new (BadText line) h is same = absurd h
-ends_unloaded command before after old new (Rejected reject) h is same = absurd h
-ends_unloaded command before after old new Refused h is same = absurd h
-ends_unloaded command before after old new Words h is same = absurd h
-ends_unloaded command before after old new ReadFault h is same = untouched_once before after old new is same
-ends_unloaded command before after old new WriteFault h is same = absurd h
-ends_unloaded command before after old new Memory h is same = inl (untouched_once before after old new is same)
-ends_unloaded command before after old new TooLong h is same = (h.1, untouched_once before after old new is same)
-ends_unloaded (solve file certificate limit) before after old new NoFile h is same = (h, untouched_once before after old new is same)
-ends_unloaded (check file name) before after old new NoFile h is same = (inl h, untouched_once before after old new is same)
+-- the bytes that were read are those loaded
+pub holds_no_graph : (file : List ℕ) (told : Option Told) (bytes read : List ℕ) → Holds told file bytes → length bytes ≤ max_bytes → read ≡ bytes
+    → ((graph : PaceGraph) → IsAccepted read graph → ⊥) → HoldsNoGraph file told
+holds_no_graph file told bytes read held small are none = record {
+  bytes = bytes;
+  loaded = record { held = held; small = small };
+  no_graph = subst (λ (bs : List ℕ). (graph : PaceGraph) → IsAccepted bs graph → ⊥) are none;
+}
 
-module _ (command : Command) (before after : Option Told) (old new : Option (List ℕ)) (bytes : List ℕ)
-    (held : Holds before (graph_file command) bytes) (small : length bytes ≤ max_bytes) (is : after ≡ one_call_later before) (same : new ≡ old) where
-  -- the bytes that were read are those loaded
-  pub ends_refused : (read : List ℕ) → read ≡ bytes → ((graph : PaceGraph) → IsAccepted read graph → ⊥) → Ends command before after old new (Err Refused)
-  ends_refused read are none = (
-    record {
-      bytes = bytes;
-      loaded = record { held = held; small = small };
-      no_graph = subst (λ (bs : List ℕ). (graph : PaceGraph) → IsAccepted bs graph → ⊥) are none;
-    },
-    untouched_once before after old new is same,
-  )
+unmade : (command : Command) (before after : Option Told) (old new : Option (List ℕ))
+    → (after ≡ before) ⊎ (after ≡ after_load (graph_file command) before) → new ≡ old → Ends command before after old new (Err Memory)
+unmade command before after old new (inl is) same = inl (0, stops_unloaded command before after old new is same)
+unmade command before after old new (inr is) same = inl (1, stops_once command before after old new is same)
 
-pub ends_unmade : (command : Command) (before after : Option Told) (old new : Option (List ℕ)) → after ≡ one_call_later before → new ≡ old
-    → Ends command before after old new (Err Memory)
-ends_unmade command before after old new is same = inl (untouched_once before after old new is same)
+pub ends_no_graph : {T : Type 0} (command : Command) (before after : Option Told) (old new : Option (List ℕ)) (stop : Stop) → StopsGraph before (graph_file command) stop
+    → ((◌≡◌ {A = Result T Stop} (Err stop) (Err Memory) → ⊥) → after ≡ after_load (graph_file command) before)
+    → (◌≡◌ {A = Result T Stop} (Err stop) (Err Memory) → (after ≡ before) ⊎ (after ≡ after_load (graph_file command) before))
+    → new ≡ old → Ends command before after old new (Err stop)
+ends_no_graph command before after old new (BadText line) h later memory same = absurd h
+ends_no_graph command before after old new (Rejected reject) h later memory same = absurd h
+ends_no_graph command before after old new Refused h later memory same = (h, stops_once command before after old new (later (λ e. cc)) same)
+ends_no_graph command before after old new Words h later memory same = absurd h
+ends_no_graph command before after old new ReadFault h later memory same = (1, omega arith, stops_once command before after old new (later (λ e. cc)) same)
+ends_no_graph command before after old new WriteFault h later memory same = absurd h
+ends_no_graph command before after old new Memory h later memory same = unmade command before after old new (memory refl) same
+ends_no_graph command before after old new TooLong h later memory same = (h, stops_once command before after old new (later (λ e. cc)) same)
+ends_no_graph (solve file certificate limit) before after old new NoFile h later memory same =
+    (h, stops_once (solve file certificate limit) before after old new (later (λ e. cc)) same)
+ends_no_graph (check file name) before after old new NoFile h later memory same =
+    inl (h, stops_once (check file name) before after old new (later (λ e. cc)) same)
 
 -- ---- the report
 pub ends_unprinted : (command : Command) (before after : Option Told) (old new : Option (List ℕ)) (printed : List ℕ) (status : ℕ) (stop : Stop) → StopsWrite stop
@@ -107,32 +98,24 @@ pub ends_printed : (command : Command) (before after : Option Told) (old new : O
 ends_printed command before after old new printed optimal reports written = record { printed = printed; reports = reports; written = written }
 
 -- ---- the certificate of `solve`
-module _ (file : List ℕ) (before mid after : Option Told) (bytes read printed : List ℕ) (cert : Certificate) (limit status : ℕ)
-    (held : Holds before file bytes) (small : length bytes ≤ max_bytes) (is : mid ≡ one_call_later before) (are : read ≡ bytes)
-    (answer : IsAnswer read printed cert limit status) where
-  answer_here : IsAnswer bytes printed cert limit status
-  answer_here = subst (λ (bs : List ℕ). IsAnswer bs printed cert limit status) are answer
-
-  within_here : (most : ℕ) → CallsWithin most mid after → CallsWithin (1 + most) before after
-  within_here most h = within_from before after most (subst (λ (t : Option Told). CallsWithin most t after) is h)
-
-  stores_here : (certificate : Option (List ℕ)) → IsKept certificate mid after cert → Stores certificate before after cert
-  stores_here None h = once before after (h ∙ is)
-  stores_here (Some name) h =
-      (stored_from before after name (text cert) (subst (λ (t : Option Told). IsStored t after name (text cert)) is h.0), within_here _ h.1)
+module _ (file : List ℕ) (before mid after : Option Told) (printed : List ℕ) (cert : Certificate) (limit status : ℕ)
+    (found : Answers file before printed cert limit status) (is : mid ≡ after_load file before) where
+  stores_here : (certificate : Option (List ℕ)) → IsKept certificate mid after cert → Stores file certificate before after cert
+  stores_here None h = h ∙ is
+  stores_here (Some name) h = subst (λ (t : Option Told). IsStored t after name (text cert) × CallsWithin (stores_of (length (text cert))) t after) is h
 
   pub solve_reports : (certificate : Option (List ℕ)) → IsKept certificate mid after cert → Reports (solve file certificate limit) before after printed status
   solve_reports certificate h = record {
-    bytes = bytes;
-    loaded = record { held = held; small = small };
+    bytes = found.bytes;
+    loaded = found.loaded;
     cert = cert;
-    answer = answer_here;
+    answer = found.answer;
     stored = stores_here certificate h;
   }
 
   module _ (old new : Option (List ℕ)) (same : new ≡ old) where
-    unbegun : (command : Command) (stop : Stop) → stop ≡ Memory → after ≡ mid → Ends command before after old new (Err stop)
-    unbegun command stop e kept = subst (λ (s : Stop). Ends command before after old new (Err s)) (sym e) (inl (untouched_once before after old new (kept ∙ is) same))
+    unbegun : (command : Command) (stop : Stop) → after ≡ after_load (graph_file command) before → stop ≡ Memory → Ends command before after old new (Err stop)
+    unbegun command stop now e = subst (λ (s : Stop). Ends command before after old new (Err s)) (sym e) (unmade command before after old new (inr now) same)
 
     partly : (name : List ℕ) → IsStoredPartly mid after name (text cert) → CallsWithin (stores_of (length (text cert))) mid after
         → StoresPartly (solve file (Some name) limit) before after old new
@@ -141,14 +124,14 @@ module _ (file : List ℕ) (before mid after : Option Told) (bytes read printed 
       name = name;
       limit = limit;
       command_is = refl;
-      bytes = bytes;
-      loaded = record { held = held; small = small };
+      bytes = found.bytes;
+      loaded = found.loaded;
       printed = printed;
       status = status;
       cert = cert;
-      answer = answer_here;
-      stored = partly_from before after name (text cert) (subst (λ (t : Option Told). IsStoredPartly t after name (text cert)) is h);
-      few = within_here _ few;
+      answer = found.answer;
+      stored = subst (λ (t : Option Told). IsStoredPartly t after name (text cert)) is h;
+      few = subst (λ (t : Option Told). CallsWithin (stores_of (length (text cert))) t after) is few;
       unwritten = same;
     }
 
@@ -166,66 +149,73 @@ module _ (file : List ℕ) (before mid after : Option Told) (bytes read printed 
 
     pub ends_unkept : (certificate : Option (List ℕ)) (stop : Stop) → StopsKeeping certificate mid after cert stop
         → Ends (solve file certificate limit) before after old new (Err stop)
-    ends_unkept None stop (inl h) = unbegun (solve file None limit) stop h.0 h.1
+    ends_unkept None stop (inl h) = unbegun (solve file None limit) stop (h.1 ∙ is) h.0
     ends_unkept None stop (inr h) = absurd h.1
-    ends_unkept (Some name) stop (inl h) = unbegun (solve file (Some name) limit) stop h.0 h.1
+    ends_unkept (Some name) stop (inl h) = unbegun (solve file (Some name) limit) stop (h.1 ∙ is) h.0
     ends_unkept (Some name) stop (inr h) = cut name stop h.0 (partly name h.1.0 h.1.1)
 
 -- ---- the certificate of `check`
-module _ (file name : List ℕ) (before mid after : Option Told) (old new : Option (List ℕ)) (bytes read : List ℕ) (graph : PaceGraph)
-    (held : Holds before file bytes) (small : length bytes ≤ max_bytes) (is : mid ≡ one_call_later before) (next : after ≡ one_call_later mid)
-    (are : read ≡ bytes) (accepted : IsAccepted read graph) where
-  accepted_here : IsAccepted bytes graph
-  accepted_here = subst (λ (bs : List ℕ). IsAccepted bs graph) are accepted
-
+module _ (file name : List ℕ) (before mid after : Option Told) (old new : Option (List ℕ)) (graph : PaceGraph)
+    (found : IsOnlyGraph file before graph) (is : mid ≡ after_load file before) where
   graph_here : IsGraph file before graph
-  graph_here = record { bytes = bytes; loaded = record { held = held; small = small }; accepted = accepted_here }
+  graph_here = record { bytes = found.bytes; loaded = found.loaded; accepted = found.accepted }
 
   held_here : (certificate : List ℕ) → Holds mid name certificate → Holds before name certificate
-  held_here certificate h = holds_from before name certificate (subst (λ (t : Option Told). Holds t name certificate) is h)
+  held_here certificate h = holds_from before file name certificate (subst (λ (t : Option Told). Holds t name certificate) is h)
 
-  pub check_reports : (certificate shown printed : List ℕ) → Holds mid name certificate → shown ≡ certificate
-      → ((other : PaceGraph) → IsAccepted read other → other ≡ graph) → IsProofOf graph shown printed → Reports (check file name) before after printed 0
-  check_reports certificate shown printed h same only proof = record {
-    bytes = bytes;
-    loaded = record { held = held; small = small };
-    graph = graph;
-    read = accepted_here;
-    only = subst (λ (bs : List ℕ). (other : PaceGraph) → IsAccepted bs other → other ≡ graph) are only;
-    certificate = certificate;
-    held = held_here certificate h;
-    proof = subst (λ (bs : List ℕ). IsProofOf graph bs printed) same proof;
-    accepted = refl;
-    kept = record { calls = 2; few = omega arith; kept = next ∙ ap one_call_later is };
-  }
+  module _ (next : after ≡ after_load name mid) where
+    pub check_reports : (certificate shown printed : List ℕ) → Holds mid name certificate → shown ≡ certificate
+        → IsProofOf graph shown printed → Reports (check file name) before after printed 0
+    check_reports certificate shown printed h same proof = record {
+      bytes = found.bytes;
+      loaded = found.loaded;
+      graph = graph;
+      read = found.accepted;
+      only = found.only;
+      certificate = certificate;
+      held = held_here certificate h;
+      proof = subst (λ (bs : List ℕ). IsProofOf graph bs printed) same proof;
+      accepted = refl;
+      kept = next ∙ ap (after_load name) is;
+    }
 
   module _ (same : new ≡ old) where
-    untouched_here : Untouched before after old new
-    untouched_here = untouched_twice before mid after old new is next same
+    here_twice : after ≡ after_load name mid → StopsAfter (check file name) 2 before after old new
+    here_twice next = stops_twice file name before mid after old new graph graph_here is next same
 
-    turned_down : (certificate shown : List ℕ) → Holds mid name certificate → shown ≡ certificate → NoneCertifies graph shown → IsTurnedDown (check file name) before
-    turned_down certificate shown h is_shown none =
-        (graph, graph_here, certificate, held_here certificate h, subst (λ (bs : List ℕ). NoneCertifies graph bs) is_shown none)
+    unmade_here : (after ≡ mid) ⊎ (after ≡ after_load name mid) → Ends (check file name) before after old new (Err Memory)
+    unmade_here (inl kept) = unmade (check file name) before after old new (inr (kept ∙ is)) same
+    unmade_here (inr next) = inl (2, here_twice next)
 
-    pub ends_unread : (limit : ℕ) (stop : Stop) → limit ≡ last_count → StopsLoad mid name limit stop → Ends (check file name) before after old new (Err stop)
-    ends_unread limit (BadText line) all h = absurd h
-    ends_unread limit (Rejected reject) all h = absurd h
-    ends_unread limit Refused all h = absurd h
-    ends_unread limit Words all h = absurd h
-    ends_unread limit ReadFault all h = untouched_here
-    ends_unread limit WriteFault all h = absurd h
-    ends_unread limit Memory all h = inl untouched_here
-    ends_unread limit TooLong all h = absurd (omega (arith, h.0, all))
-    ends_unread limit NoFile all h = (inr (graph, graph_here, lacks_from before name (subst (λ (t : Option Told). Lacks t name) is h)), untouched_here)
+    turned_down : (stop : Stop) (certificate shown : List ℕ) → Holds mid name certificate → shown ≡ certificate
+        → NoneCertifies graph shown × FindsFault graph shown stop → IsTurnedDownBy (check file name) before stop
+    turned_down stop certificate shown h is_shown none =
+        let both : NoneCertifies graph certificate × FindsFault graph certificate stop = subst (λ (bs : List ℕ). NoneCertifies graph bs × FindsFault graph bs stop) is_shown none in
+        (graph, graph_here, certificate, held_here certificate h, both.0, both.1)
 
-    pub ends_unproven : (certificate shown : List ℕ) → Holds mid name certificate → shown ≡ certificate → (stop : Stop) → StopsCheck graph shown stop
+    pub ends_unread : {T : Type 0} (limit : ℕ) (stop : Stop) → limit ≡ last_count → StopsLoad mid name limit stop
+        → ((◌≡◌ {A = Result T Stop} (Err stop) (Err Memory) → ⊥) → after ≡ after_load name mid)
+        → (◌≡◌ {A = Result T Stop} (Err stop) (Err Memory) → (after ≡ mid) ⊎ (after ≡ after_load name mid))
         → Ends (check file name) before after old new (Err stop)
-    ends_unproven certificate shown holds is_shown (BadText line) h = (turned_down certificate shown holds is_shown h, untouched_here)
-    ends_unproven certificate shown holds is_shown (Rejected reject) h = (turned_down certificate shown holds is_shown h, untouched_here)
-    ends_unproven certificate shown holds is_shown Refused h = absurd h
-    ends_unproven certificate shown holds is_shown Words h = absurd h
-    ends_unproven certificate shown holds is_shown ReadFault h = absurd h
-    ends_unproven certificate shown holds is_shown WriteFault h = absurd h
-    ends_unproven certificate shown holds is_shown Memory h = inl untouched_here
-    ends_unproven certificate shown holds is_shown TooLong h = absurd h
-    ends_unproven certificate shown holds is_shown NoFile h = absurd h
+    ends_unread limit (BadText line) all h later memory = absurd h
+    ends_unread limit (Rejected reject) all h later memory = absurd h
+    ends_unread limit Refused all h later memory = absurd h
+    ends_unread limit Words all h later memory = absurd h
+    ends_unread limit ReadFault all h later memory = (2, omega arith, here_twice (later (λ e. cc)))
+    ends_unread limit WriteFault all h later memory = absurd h
+    ends_unread limit Memory all h later memory = unmade_here (memory refl)
+    ends_unread limit TooLong all h later memory = absurd (omega (arith, h.0, all))
+    ends_unread limit NoFile all h later memory =
+        inr (graph, graph_here, lacks_from before file name (subst (λ (t : Option Told). Lacks t name) is h), here_twice (later (λ e. cc)))
+
+    pub ends_unproven : (certificate shown : List ℕ) → Holds mid name certificate → shown ≡ certificate → after ≡ after_load name mid
+        → (stop : Stop) → StopsCheck graph shown stop → Ends (check file name) before after old new (Err stop)
+    ends_unproven certificate shown holds is_shown next (BadText line) h = (turned_down (BadText line) certificate shown holds is_shown h, here_twice next)
+    ends_unproven certificate shown holds is_shown next (Rejected reject) h = (turned_down (Rejected reject) certificate shown holds is_shown h, here_twice next)
+    ends_unproven certificate shown holds is_shown next Refused h = absurd h
+    ends_unproven certificate shown holds is_shown next Words h = absurd h
+    ends_unproven certificate shown holds is_shown next ReadFault h = absurd h
+    ends_unproven certificate shown holds is_shown next WriteFault h = absurd h
+    ends_unproven certificate shown holds is_shown next Memory h = unmade_here (inr next)
+    ends_unproven certificate shown holds is_shown next TooLong h = absurd h
+    ends_unproven certificate shown holds is_shown next NoFile h = absurd h

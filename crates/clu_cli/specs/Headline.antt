@@ -1,6 +1,6 @@
 -- What a run promises: the headline, and the cause of each status.
-use Rattle.std.specs.Prelude.{◌≡◌, ◌⊎◌, ◌↔◌, ℕ, zero, suc, pos, ◌+◌, ◌≤◌, ◌<◌, ◌≤ℤ◌, List, length, Bool, Option, Some, None, Result, Ok, Err, if◌then◌else◌}
-use Rattle.clu_outside.specs.Folder.{Told, one_call_later, Holds, HoldsMore, Lacks, IsStored, IsStoredPartly, CallsWithin, stores_of}
+use Rattle.std.specs.Prelude.{◌≡◌, ◌≢◌, ◌⊎◌, ◌↔◌, ℕ, pos, ◌≤◌, ◌<◌, ◌≤ℤ◌, List, [], ◌∷◌, length, take, Bool, Option, Some, None, Result, Ok, Err, if◌then◌else◌}
+use Rattle.clu_outside.specs.Folder.{Told, after_load, Holds, HoldsMore, Lacks, IsStored, IsStoredPartly, CallsWithin, stores_of}
 use Rattle.clu_outside.specs.Sink.{TakesSome, with_bytes}
 use Rattle.clu_partition.specs.Closed.{Closed, IsOpen}
 use Rattle.clu_partition.specs.Partition.{EachOnce, IsPartition, blocks_of}
@@ -9,16 +9,20 @@ use Rattle.clu_pace.specs.Numbers.{graph_names}
 use Rattle.clu_pace.specs.Pace.{IsAccepted}
 use Rattle.clu_objective.specs.Edits.{edits, PosesEdits}
 use Rattle.clu_objective.specs.Problem.{Posed}
+use Rattle.clu_cert.specs.Faults.{IsFault}
 use Rattle.clu_cert.specs.Fits.{Fits}
 use Rattle.clu_cert.specs.Text.{text}
 use Rattle.clu_cert.specs.Valid.{IsValid}
 use Rattle.clu_cert.specs.declared.certificate.Certificate.{Certificate}
+use Rattle.clu_check.specs.Rejected.{IsRejected}
+use Rattle.clu_check.specs.declared.reject.Reject.TheVariants as reject
 use Rattle.clu_search.specs.Count.{count}
 use Rattle.clu_search.specs.Outcome.{StatesItsBound, branchings_of}
 use Rattle.clu_cli.specs.declared.report.Facts.{Facts}
 use Rattle.clu_cli.specs.declared.stop.Stop.{Stop}
 use Rattle.clu_cli.specs.declared.stop.Stop.TheVariants.{Refused, BadText, Rejected, Words, ReadFault, WriteFault, Memory, TooLong, NoFile}
 use Rattle.clu_cli.specs.Report.{report, check_report}
+use Rattle.clu_cli.specs.Status.{stop_line}
 use Rattle.clu_cli.specs.Words.{Command, solve, check, graph_file}
 
 -- ---- what is printed
@@ -29,6 +33,23 @@ pub record Certifies (graph : PaceGraph) (cert : Certificate) : Type 0 where
   pub start : Closed
   pub unbound : IsOpen graph.n start
   pub valid : IsValid problem start cert
+
+-- the bytes are the text of no certificate that is valid for the graph
+abbrev pub NoneCertifies : PaceGraph → List ℕ → Type 0
+NoneCertifies graph bytes = (cert : Certificate) → Fits cert → bytes ≡ text cert → Certifies graph cert → ⊥
+
+-- why they are none: the first bad line, or the first condition that fails
+abbrev pub FindsFault : PaceGraph → List ℕ → Stop → Type 0
+FindsFault graph bytes (BadText line) = IsFault bytes line
+FindsFault graph bytes (Rejected found) = (found ≢ reject.Memory) × (cert : Certificate) × Fits cert × (bytes ≡ text cert)
+    × (problem : Posed) × PosesEdits graph problem × (start : Closed) × IsOpen graph.n start × IsRejected problem start cert found
+FindsFault graph bytes Refused = ⊥
+FindsFault graph bytes Words = ⊥
+FindsFault graph bytes ReadFault = ⊥
+FindsFault graph bytes WriteFault = ⊥
+FindsFault graph bytes Memory = ⊥
+FindsFault graph bytes TooLong = ⊥
+FindsFault graph bytes NoFile = ⊥
 
 -- What a search without rules leaves: the certificate is valid for the problem of the graph, its bound is exactly what its items
 -- prove, and it has fewer branches than the graph's vertices have partitions.
@@ -43,8 +64,8 @@ pub record IsSearched (graph : PaceGraph) (cert : Certificate) : Type 0 where
 
 -- What is printed for the bytes of a graph file, where so many branchings are allowed. They are a text of one graph alone. The
 -- report is that of a partition whose blocks hold each vertex exactly once. The printed value is exactly its number of edits,
--- and no partition has fewer edits than the printed bound. The status is 0 exactly where value and bound are equal, and 1 only
--- where all allowed branchings were made. The certificate has these blocks, this value, this bound and as many branches as the
+-- and no partition has fewer edits than the printed bound. The status is 0 exactly where value and bound are equal, and else 1,
+-- which comes only where all allowed branchings were made. The certificate has these blocks, this value, this bound and as many branches as the
 -- printed branchings; it is valid, and its bound is exactly what it proves. There are fewer branchings than partitions.
 pub record IsAnswer (bytes printed : List ℕ) (cert : Certificate) (limit status : ℕ) : Type 0 where
   pub graph : PaceGraph
@@ -58,6 +79,7 @@ pub record IsAnswer (bytes printed : List ℕ) (cert : Certificate) (limit statu
   pub value : facts.value ≡ pos (edits graph labels)
   pub none_better : (others : List ℕ) → IsPartition graph.n others → facts.bound ≤ℤ pos (edits graph others)
   pub text : printed ≡ report facts (graph_names graph) labels
+  pub known : status ≤ 1
   pub optimal : (status ≡ 0) ↔ (facts.value ≡ facts.bound)
   pub gap : status ≡ 1 → facts.branchings ≡ limit
   pub within : facts.branchings ≤ limit
@@ -97,22 +119,36 @@ pub record IsGraph (file : List ℕ) (told : Option Told) (graph : PaceGraph) : 
   pub loaded : IsLoaded file told bytes
   pub accepted : IsAccepted bytes graph
 
--- what a folder tells after this many calls that changed no file
-abbrev pub after_calls : ℕ → Option Told → Option Told
-after_calls zero told = told
-after_calls (suc n) told = one_call_later (after_calls n told)
+-- ---- what was loaded
+-- the files that a command loads, in the order of its work
+abbrev pub files_of : Command → List (List ℕ)
+files_of (solve file certificate limit) = file ∷ []
+files_of (check file name) = file ∷ name ∷ []
 
--- no file has changed, and the folder had no more calls than this
-pub record KeepsFiles (most : ℕ) (before after : Option Told) : Type 0 where
-  pub calls : ℕ
-  pub few : calls ≤ most
-  pub kept : after ≡ after_calls calls before
+-- what a folder tells after loads of these names, one after the other
+abbrev pub after_loads : List (List ℕ) → Option Told → Option Told
+after_loads [] told = told
+after_loads (name ∷ names) told = after_loads names (after_load name told)
 
--- where a name is given, the certificate is stored whole under it and nothing else has changed; else no file has changed
-abbrev pub Stores : Option (List ℕ) → Option Told → Option Told → Certificate → Type 0
-Stores None before after cert = KeepsFiles 1 before after
-Stores (Some name) before after cert =
-    IsStored before after name (text cert) × CallsWithin (1 + stores_of (length (text cert))) before after
+-- The folder has had the loads of the first so many of the command's files, in their order, and no other call. The certificate
+-- is loaded only where the graph is one.
+pub record HasLoaded (command : Command) (loads : ℕ) (before after : Option Told) : Type 0 where
+  pub few : loads ≤ length (files_of command)
+  pub told : after ≡ after_loads (take loads (files_of command)) before
+  pub graph : 2 ≤ loads → (graph : PaceGraph) × IsGraph (graph_file command) before graph
+
+-- after so many loads the command stopped: no file has changed, and the sink has taken nothing
+pub record StopsAfter (command : Command) (loads : ℕ) (before after : Option Told) (old new : Option (List ℕ)) : Type 0 where
+  pub loaded : HasLoaded command loads before after
+  pub unwritten : new ≡ old
+
+-- After the load of the graph the certificate is stored whole under its name, where one is given, and nothing else has changed;
+-- else no file has changed.
+abbrev pub Stores : List ℕ → Option (List ℕ) → Option Told → Option Told → Certificate → Type 0
+Stores file None before after cert = after ≡ after_load file before
+Stores file (Some name) before after cert =
+    IsStored (after_load file before) after name (text cert)
+    × CallsWithin (stores_of (length (text cert))) (after_load file before) after
 
 -- ---- how a command ends
 -- the report of `solve`, at a time at which the certificate is stored
@@ -122,7 +158,7 @@ pub record SolveReports (file : List ℕ) (certificate : Option (List ℕ)) (lim
   pub loaded : IsLoaded file before bytes
   pub cert : Certificate
   pub answer : IsAnswer bytes printed cert limit status
-  pub stored : Stores certificate before after cert
+  pub stored : Stores file certificate before after cert
 
 -- the report of `check`
 pub record CheckReports (file name : List ℕ) (before after : Option Told) (printed : List ℕ) (status : ℕ) : Type 0 where
@@ -135,7 +171,7 @@ pub record CheckReports (file name : List ℕ) (before after : Option Told) (pri
   pub held : Holds before name certificate
   pub proof : IsProofOf graph certificate printed
   pub accepted : status ≡ 0
-  pub kept : KeepsFiles 2 before after
+  pub kept : after ≡ after_loads (file ∷ name ∷ []) before
 
 abbrev pub Reports : Command → Option Told → Option Told → List ℕ → ℕ → Type 0
 Reports (solve file certificate limit) before after printed status = SolveReports file certificate limit before after printed status
@@ -154,7 +190,8 @@ pub record WritesPartly (command : Command) (before after : Option Told) (old ne
   pub reports : Reports command before after printed status
   pub taken : TakesSome old new printed
 
--- the certificate's name holds what it held or a prefix of the certificate, and the sink has taken nothing
+-- after the load of the graph the certificate's name holds what it held or a prefix of the certificate, and the sink has taken
+-- nothing
 pub record StoresPartly (command : Command) (before after : Option Told) (old new : Option (List ℕ)) : Type 0 where
   pub file : List ℕ
   pub name : List ℕ
@@ -166,8 +203,8 @@ pub record StoresPartly (command : Command) (before after : Option Told) (old ne
   pub status : ℕ
   pub cert : Certificate
   pub answer : IsAnswer bytes printed cert limit status
-  pub stored : IsStoredPartly before after name (text cert)
-  pub few : CallsWithin (1 + stores_of (length (text cert))) before after
+  pub stored : IsStoredPartly (after_load file before) after name (text cert)
+  pub few : CallsWithin (stores_of (length (text cert))) (after_load file before) after
   pub unwritten : new ≡ old
 
 -- status 8, and 9 where storing had begun: the certificate or the report is cut short, and the report is begun only where
@@ -175,44 +212,84 @@ pub record StoresPartly (command : Command) (before after : Option Told) (old ne
 abbrev pub IsCutShort : Command → Option Told → Option Told → Option (List ℕ) → Option (List ℕ) → Type 0
 IsCutShort command before after old new = StoresPartly command before after old new ⊎ WritesPartly command before after old new
 
--- the folder had two loads at most, no file has changed, and the sink has taken nothing
-pub record Untouched (before after : Option Told) (old new : Option (List ℕ)) : Type 0 where
-  pub files : KeepsFiles 2 before after
-  pub unwritten : new ≡ old
-
--- status 3: the graph is one, and the other file is the text of no certificate that is valid for it
+-- the graph is one, and the other file is the text of no certificate that is valid for it
 abbrev pub IsTurnedDown : Command → Option Told → Type 0
 IsTurnedDown (solve file certificate limit) told = ⊥
 IsTurnedDown (check file name) told = (graph : PaceGraph) × IsGraph file told graph × (bytes : List ℕ) × Holds told name bytes
-    × ((cert : Certificate) → Fits cert → bytes ≡ text cert → Certifies graph cert → ⊥)
+    × NoneCertifies graph bytes
 
--- status 4: the graph's file is no text of a graph of at most 1,000 vertices
-pub record IsRefused (command : Command) (told : Option Told) : Type 0 where
+-- and this is why
+abbrev pub IsTurnedDownBy : Command → Option Told → Stop → Type 0
+IsTurnedDownBy (solve file certificate limit) told stop = ⊥
+IsTurnedDownBy (check file name) told stop = (graph : PaceGraph) × IsGraph file told graph × (bytes : List ℕ) × Holds told name bytes
+    × NoneCertifies graph bytes × FindsFault graph bytes stop
+
+-- the file of this name is no text of a graph of at most 1,000 vertices
+pub record HoldsNoGraph (file : List ℕ) (told : Option Told) : Type 0 where
   pub bytes : List ℕ
-  pub loaded : IsLoaded (graph_file command) told bytes
+  pub loaded : IsLoaded file told bytes
   pub no_graph : (graph : PaceGraph) → IsAccepted bytes graph → ⊥
 
--- status 10: the graph's file is too long
+-- the graph's file is none
+abbrev pub IsRefused : Command → Option Told → Type 0
+IsRefused command told = HoldsNoGraph (graph_file command) told
+
+-- the graph's file is too long
 abbrev pub IsTooLong : Command → Option Told → Type 0
 IsTooLong command told = HoldsMore told (graph_file command) max_bytes
 
--- status 11: the folder lacks the graph's file, or the graph is one and the folder lacks the certificate's
+-- the folder lacks the graph's file, or the graph is one and the folder lacks the certificate's
 abbrev pub IsAbsent : Command → Option Told → Type 0
 IsAbsent (solve file certificate limit) told = Lacks told file
 IsAbsent (check file name) told = Lacks told file ⊎ ((graph : PaceGraph) × IsGraph file told graph × Lacks told name)
 
+-- status 3: the certificate is turned down, after the loads of both files
+abbrev pub StopsTurnedDown : Command → Option Told → Option Told → Option (List ℕ) → Option (List ℕ) → Type 0
+StopsTurnedDown command before after old new = IsTurnedDown command before × StopsAfter command 2 before after old new
+
+-- status 4: the graph is refused, after its load
+abbrev pub StopsRefused : Command → Option Told → Option Told → Option (List ℕ) → Option (List ℕ) → Type 0
+StopsRefused command before after old new = IsRefused command before × StopsAfter command 1 before after old new
+
+-- status 7: a load met a fault, so there was one at least
+abbrev pub StopsUnread : Command → Option Told → Option Told → Option (List ℕ) → Option (List ℕ) → Type 0
+StopsUnread command before after old new = (loads : ℕ) × (1 ≤ loads) × StopsAfter command loads before after old new
+
+-- status 9: want of memory came after some of the loads, or while storing or writing
+abbrev pub StopsUnmade : Command → Option Told → Option Told → Option (List ℕ) → Option (List ℕ) → Type 0
+StopsUnmade command before after old new =
+    ((loads : ℕ) × StopsAfter command loads before after old new) ⊎ IsCutShort command before after old new
+
+-- status 10: the graph's file is too long, after its load
+abbrev pub StopsTooLong : Command → Option Told → Option Told → Option (List ℕ) → Option (List ℕ) → Type 0
+StopsTooLong command before after old new = IsTooLong command before × StopsAfter command 1 before after old new
+
+-- status 11: a file is missing, after the load of it
+abbrev pub StopsAbsent : Command → Option Told → Option Told → Option (List ℕ) → Option (List ℕ) → Type 0
+StopsAbsent (solve file certificate limit) before after old new =
+    Lacks before file × StopsAfter (solve file certificate limit) 1 before after old new
+StopsAbsent (check file name) before after old new =
+    (Lacks before file × StopsAfter (check file name) 1 before after old new)
+    ⊎ ((graph : PaceGraph) × IsGraph file before graph × Lacks before name × StopsAfter (check file name) 2 before after old new)
+
 -- how a command ends, by the cause
 abbrev pub Ends : Command → Option Told → Option Told → Option (List ℕ) → Option (List ℕ) → Result Bool Stop → Type 0
 Ends command before after old new (Ok optimal) = Prints command before after old new (if optimal then 0 else 1)
-Ends command before after old new (Err (BadText line)) = IsTurnedDown command before × Untouched before after old new
-Ends command before after old new (Err (Rejected reject)) = IsTurnedDown command before × Untouched before after old new
-Ends command before after old new (Err Refused) = IsRefused command before × Untouched before after old new
+Ends command before after old new (Err (BadText line)) = IsTurnedDownBy command before (BadText line) × StopsAfter command 2 before after old new
+Ends command before after old new (Err (Rejected found)) = IsTurnedDownBy command before (Rejected found) × StopsAfter command 2 before after old new
+Ends command before after old new (Err Refused) = StopsRefused command before after old new
 Ends command before after old new (Err Words) = ⊥
-Ends command before after old new (Err ReadFault) = Untouched before after old new
+Ends command before after old new (Err ReadFault) = StopsUnread command before after old new
 Ends command before after old new (Err WriteFault) = IsCutShort command before after old new
-Ends command before after old new (Err Memory) = Untouched before after old new ⊎ IsCutShort command before after old new
-Ends command before after old new (Err TooLong) = IsTooLong command before × Untouched before after old new
-Ends command before after old new (Err NoFile) = IsAbsent command before × Untouched before after old new
+Ends command before after old new (Err Memory) = StopsUnmade command before after old new
+Ends command before after old new (Err TooLong) = StopsTooLong command before after old new
+Ends command before after old new (Err NoFile) = StopsAbsent command before after old new
+
+-- a certificate is turned down, and err has taken a prefix of the line of what was found
+pub record TellsFault (command : Command) (told : Option Told) (old new : Option (List ℕ)) : Type 0 where
+  pub stop : Stop
+  pub found : IsTurnedDownBy command told stop
+  pub taken : TakesSome old new (stop_line stop)
 
 -- ---- which status comes
 -- the two files are a graph and the text of a certificate that is valid for it

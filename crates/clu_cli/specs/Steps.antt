@@ -2,13 +2,13 @@
 use Rattle.std.specs.Prelude.{◌≡◌, ◌⊎◌, ℕ, ◌<◌, ◌≤◌, List, length, Option, Some, None, Result, IfOk, IfErr, OnOk}
 use Rattle.std.specs.Global.{Vec}
 use Rattle.clu_outside.specs.Counts.{last_count}
-use Rattle.clu_outside.specs.Folder.{Told, one_call_later, Holds, HoldsMore, Lacks, IsStored, IsStoredPartly, CallsWithin, stores_of}
+use Rattle.clu_outside.specs.Folder.{Told, Holds, HoldsMore, Lacks, IsStored, IsStoredPartly, CallsWithin, stores_of}
 use Rattle.clu_outside.specs.Sink.{TakesSome, with_bytes}
 use Rattle.clu_pace.specs.Graph.{PaceGraph}
-use Rattle.clu_cert.specs.Fits.{Fits}
+use Rattle.clu_pace.specs.Pace.{IsAccepted}
 use Rattle.clu_cert.specs.Text.{text}
 use Rattle.clu_cert.specs.declared.certificate.Certificate.{Certificate}
-use Rattle.clu_cli.specs.Headline.{Certifies}
+use Rattle.clu_cli.specs.Headline.{FindsFault, HoldsNoGraph, IsAnswer, IsLoaded, NoneCertifies, max_bytes}
 use Rattle.clu_cli.specs.declared.stop.Stop.{Stop}
 use Rattle.clu_cli.specs.declared.stop.Stop.TheVariants.{BadText, Rejected, Refused, Words, ReadFault, WriteFault, Memory, TooLong, NoFile}
 
@@ -24,12 +24,36 @@ StopsLoad told name limit Refused = ⊥
 StopsLoad told name limit Words = ⊥
 StopsLoad told name limit WriteFault = ⊥
 
--- a load is one call, changes no file, and gives the bytes under the name
-pub record Loads (old new : Option Told) (name : List ℕ) (limit : ℕ) (result : Result (Vec ℕ) Stop) : Type 0 where
-  pub later : new ≡ one_call_later old
-  pub found : IfOk result (λ bytes. Holds old name bytes.items)
+-- a load gives the bytes under the name
+pub record Loads (told : Option Told) (name : List ℕ) (limit : ℕ) (result : Result (Vec ℕ) Stop) : Type 0 where
+  pub found : IfOk result (λ bytes. Holds told name bytes.items)
   pub within : limit < last_count → IfOk result (λ bytes. length bytes.items ≤ limit)
-  pub stops : IfErr result (λ stop. StopsLoad old name limit stop)
+  pub stops : IfErr result (λ stop. StopsLoad told name limit stop)
+
+-- why the graph's file gives no graph: it is missing, too long or no text of a graph, or a fault or want of memory came
+abbrev pub StopsGraph : Option Told → List ℕ → Stop → Type 0
+StopsGraph told file NoFile = Lacks told file
+StopsGraph told file TooLong = HoldsMore told file max_bytes
+StopsGraph told file Refused = HoldsNoGraph file told
+StopsGraph told file ReadFault = Unit {0}
+StopsGraph told file Memory = Unit {0}
+StopsGraph told file (BadText line) = ⊥
+StopsGraph told file (Rejected reject) = ⊥
+StopsGraph told file Words = ⊥
+StopsGraph told file WriteFault = ⊥
+
+-- the file of this name is a text of this graph alone
+pub record IsOnlyGraph (file : List ℕ) (told : Option Told) (graph : PaceGraph) : Type 0 where
+  pub bytes : List ℕ
+  pub loaded : IsLoaded file told bytes
+  pub accepted : IsAccepted bytes graph
+  pub only : (other : PaceGraph) → IsAccepted bytes other → other ≡ graph
+
+-- the answer is that of the graph's file
+pub record Answers (file : List ℕ) (told : Option Told) (printed : List ℕ) (cert : Certificate) (limit status : ℕ) : Type 0 where
+  pub bytes : List ℕ
+  pub loaded : IsLoaded file told bytes
+  pub answer : IsAnswer bytes printed cert limit status
 
 -- why bytes were not stored or written: a fault or want of memory
 abbrev pub StopsWrite : Stop → Type 0
@@ -70,14 +94,10 @@ pub record PrintsBytes {T : Type 0} (old new : Option (List ℕ)) (bytes : List 
   pub whole : OnOk result (new ≡ with_bytes old bytes)
   pub stops : IfErr result StopsWrite
 
--- the bytes are the text of no certificate that is valid for the graph
-abbrev pub NoneCertifies : PaceGraph → List ℕ → Type 0
-NoneCertifies graph bytes = (cert : Certificate) → Fits cert → bytes ≡ text cert → Certifies graph cert → ⊥
-
--- why a certificate is not accepted: it isn't one that is valid, or want of memory came
+-- why a certificate is not accepted: it isn't one that is valid, for what was found, or want of memory came
 abbrev pub StopsCheck : PaceGraph → List ℕ → Stop → Type 0
-StopsCheck graph bytes (BadText line) = NoneCertifies graph bytes
-StopsCheck graph bytes (Rejected reject) = NoneCertifies graph bytes
+StopsCheck graph bytes (BadText line) = NoneCertifies graph bytes × FindsFault graph bytes (BadText line)
+StopsCheck graph bytes (Rejected reject) = NoneCertifies graph bytes × FindsFault graph bytes (Rejected reject)
 StopsCheck graph bytes Memory = Unit {0}
 StopsCheck graph bytes Refused = ⊥
 StopsCheck graph bytes Words = ⊥

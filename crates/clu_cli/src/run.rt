@@ -1,20 +1,21 @@
-ghost use Rattle.std.specs.Prelude.{◌≡◌, ◌≢◌, ◌↔◌, ◌≤◌, ◌⊎◌, ℕ, IfSome, IsErrOf, IsTrue, Some, OnErr};
+ghost use Rattle.std.specs.Prelude.{◌≡◌, ◌≢◌, ◌↔◌, ◌≤◌, ◌⊎◌, IfErr, IfOk, IfSome, IsErrOf, IsTrue, Some, if◌then◌else◌};
 ghost use Rattle.std.specs.Option.{option_map};
 ghost use Rattle.clu_outside.specs.Counts.{Rose};
+ghost use Rattle.clu_outside.specs.Folder.{after_load};
 ghost use Rattle.clu_outside.specs.Sink.{TakesSome};
 ghost use Rattle.clu_cert.specs.Fits.{Fits};
-ghost use Rattle.clu_cli.specs.Headline.{Prints, IsTurnedDown, IsRefused, IsAbsent, IsTooLong, IsCutShort, IsDecided, KeepsFiles, Untouched, Ends};
+ghost use Rattle.clu_cli.specs.Headline.{Prints, StopsTurnedDown, StopsRefused, StopsUnread, StopsUnmade, StopsTooLong, StopsAbsent, IsCutShort, IsDecided, TellsFault, Ends};
 ghost use Rattle.clu_cli.specs.Status.{end_status, is_status, stop_line, WritesLine};
-ghost use Rattle.clu_cli.specs.Steps.{Keeps, Loads, PrintsBytes};
+ghost use Rattle.clu_cli.specs.Steps.{Answers, IsOnlyGraph, Keeps, Loads, PrintsBytes, StopsGraph};
 ghost use Rattle.clu_cli.specs.Words.{Command as Asks, IsCommand, Asked, solve as solves, check as checks};
 
-use crate::answer::answer_of;
+use crate::answer::{Answer, answer_of};
 use crate::checked::checked;
 use crate::stop::Stop;
 use crate::words::{Command, read_words};
 use clu_cert::{Certificate, write_cert};
 use clu_outside::{Folder, LoadErr, Sink, WriteErr, store_whole, write_whole};
-use clu_pace::{PaceError, read_pace};
+use clu_pace::{Graph, PaceError, read_pace};
 use std::alloc::Global;
 
 /// The largest length of a graph file, in bytes.
@@ -22,7 +23,11 @@ const MAX_BYTES: u64 = 67_108_864;
 
 /// The bytes under a name, unless they are longer than the limit.
 fn load<F: Folder>(alloc: Global, folder: &mut F, name: &str, limit: u64) -> Result<Vec<u8>, Stop>
-    ensures tells { Loads (F.told folder.old) (F.told folder.new) name.now limit result }
+    ensures tells { Loads (F.told folder.old) name.now limit result }
+    ensures later { (IsErrOf result Stop.Memory → ⊥)
+        → F.told folder.new ≡ after_load name.now (F.told folder.old) }
+    ensures memory { IsErrOf result Stop.Memory → (F.told folder.new ≡ F.told folder.old)
+        ⊎ (F.told folder.new ≡ after_load name.now (F.told folder.old)) }
     ensures read_fault { IsErrOf result Stop.ReadFault
         → Rose (F.load_faults folder.old) (F.load_faults folder.new) }
     ensures no_read_fault { (IsErrOf result Stop.ReadFault → ⊥)
@@ -35,6 +40,56 @@ fn load<F: Folder>(alloc: Global, folder: &mut F, name: &str, limit: u64) -> Res
         Err(LoadErr::Missing) => Err(Stop::NoFile),
         Err(LoadErr::TooLong) => Err(Stop::TooLong),
         Err(LoadErr::Memory) => Err(Stop::Memory),
+    }
+}
+
+/// Loads the graph of a file and solves it with this many branchings at most.
+fn answer_file<F: Folder>(
+    alloc: Global,
+    folder: &mut F,
+    file: &str,
+    branchings: u64,
+) -> Result<Answer, Stop>
+    ensures found { IfOk result (λ answer. Answers file.now (F.told folder.old) answer.text.items
+        answer.certificate branchings (if answer.optimal then 0 else 1)) }
+    ensures stops { IfErr result (λ stop. StopsGraph (F.told folder.old) file.now stop) }
+    ensures later { (IsErrOf result Stop.Memory → ⊥)
+        → F.told folder.new ≡ after_load file.now (F.told folder.old) }
+    ensures memory { IsErrOf result Stop.Memory → (F.told folder.new ≡ F.told folder.old)
+        ⊎ (F.told folder.new ≡ after_load file.now (F.told folder.old)) }
+    ensures read_fault { IsErrOf result Stop.ReadFault
+        → Rose (F.load_faults folder.old) (F.load_faults folder.new) }
+    ensures no_read_fault { (IsErrOf result Stop.ReadFault → ⊥)
+        → F.load_faults folder.new ≡ F.load_faults folder.old }
+    ensures stores { F.store_faults folder.new ≡ F.store_faults folder.old }
+{
+    let bytes = load(alloc, folder, file, MAX_BYTES)?;
+    match answer_of(alloc, &bytes, branchings) {
+        Ok(answer) => Ok(answer),
+        Err(PaceError::Refused) => Err(Stop::Refused),
+        Err(PaceError::Memory) => Err(Stop::Memory),
+    }
+}
+
+/// Loads and reads the graph of a file.
+fn read_file<F: Folder>(alloc: Global, folder: &mut F, file: &str) -> Result<Graph, Stop>
+    ensures found { IfOk result (λ graph. IsOnlyGraph file.now (F.told folder.old) graph) }
+    ensures stops { IfErr result (λ stop. StopsGraph (F.told folder.old) file.now stop) }
+    ensures later { (IsErrOf result Stop.Memory → ⊥)
+        → F.told folder.new ≡ after_load file.now (F.told folder.old) }
+    ensures memory { IsErrOf result Stop.Memory → (F.told folder.new ≡ F.told folder.old)
+        ⊎ (F.told folder.new ≡ after_load file.now (F.told folder.old)) }
+    ensures read_fault { IsErrOf result Stop.ReadFault
+        → Rose (F.load_faults folder.old) (F.load_faults folder.new) }
+    ensures no_read_fault { (IsErrOf result Stop.ReadFault → ⊥)
+        → F.load_faults folder.new ≡ F.load_faults folder.old }
+    ensures stores { F.store_faults folder.new ≡ F.store_faults folder.old }
+{
+    let bytes = load(alloc, folder, file, MAX_BYTES)?;
+    match read_pace(alloc, &bytes) {
+        Ok(graph) => Ok(graph),
+        Err(PaceError::Refused) => Err(Stop::Refused),
+        Err(PaceError::Memory) => Err(Stop::Memory),
     }
 }
 
@@ -107,12 +162,7 @@ fn solve_file<F: Folder, O: Sink>(
     ensures no_write_fault { (IsErrOf result Stop.WriteFault → ⊥)
         → O.faults out.new ≡ O.faults out.old }
 {
-    let bytes = load(alloc, folder, file, MAX_BYTES)?;
-    let answer = match answer_of(alloc, &bytes, branchings) {
-        Ok(answer) => answer,
-        Err(PaceError::Refused) => return Err(Stop::Refused),
-        Err(PaceError::Memory) => return Err(Stop::Memory),
-    };
+    let answer = answer_file(alloc, folder, file, branchings)?;
     keep(alloc, folder, certificate, &answer.certificate)?;
     print(out, &answer.text)?;
     Ok(answer.optimal)
@@ -142,12 +192,7 @@ fn check_file<F: Folder, O: Sink>(
     ensures no_write_fault { (IsErrOf result Stop.WriteFault → ⊥)
         → O.faults out.new ≡ O.faults out.old }
 {
-    let graph_bytes = load(alloc, folder, file, MAX_BYTES)?;
-    let graph = match read_pace(alloc, &graph_bytes) {
-        Ok(graph) => graph,
-        Err(PaceError::Refused) => return Err(Stop::Refused),
-        Err(PaceError::Memory) => return Err(Stop::Memory),
-    };
+    let graph = read_file(alloc, folder, file)?;
     let bytes = load(alloc, folder, certificate, u64::MAX)?;
     let report = checked(alloc, &graph, &bytes)?;
     print(out, &report)?;
@@ -164,8 +209,6 @@ fn work<F: Folder, O: Sink>(
     ensures words { IsErrOf result Stop.Words ↔ ((command : Asks) → IsCommand words.now command → ⊥) }
     ensures ends { Asked words.now (λ command. Ends command (F.told folder.old) (F.told folder.new)
         (O.written out.old) (O.written out.new) result) }
-    ensures untouched { 2 ≤ end_status result → end_status result ≢ 8 → end_status result ≢ 9
-        → Untouched (F.told folder.old) (F.told folder.new) (O.written out.old) (O.written out.new) }
     ensures unasked { IsErrOf result Stop.Words → F.told folder.new ≡ F.told folder.old }
     ensures quiet { IsErrOf result Stop.Words → O.written out.new ≡ O.written out.old }
     ensures read_fault { IsErrOf result Stop.ReadFault
@@ -210,6 +253,8 @@ fn finish<E: Sink>(alloc: Global, err: &mut E, end: Result<bool, Stop>) -> u8
     ensures known { IsTrue (is_status result) }
     ensures silent { result ≤ 1 → E.written err.new ≡ E.written err.old }
     ensures line { 2 ≤ result → WritesLine (E.written err.old) (E.written err.new) result }
+    ensures told { IfErr end (λ stop.
+        TakesSome (E.written err.old) (E.written err.new) (stop_line stop)) }
 {
     match end {
         Ok(true) => 0,
@@ -237,38 +282,43 @@ pub fn run<F: Folder, O: Sink, E: Sink>(
     ensures answers { result ≤ 1 → Asked words.now (λ command. Prints command (F.told folder.old)
         (F.told folder.new) (O.written out.old) (O.written out.new) result) }
 
-    // Each other status has its cause.
-    ensures turned_down { result ≡ 3
-        → Asked words.now (λ command. IsTurnedDown command (F.told folder.old)) }
-    ensures refused { result ≡ 4
-        → Asked words.now (λ command. IsRefused command (F.told folder.old)) }
+    // Each other status has its cause, and says which files were loaded and what else was left: no file
+    // has changed and `out` has taken nothing, but for what is cut short.
+    ensures turned_down { result ≡ 3 → Asked words.now (λ command. StopsTurnedDown command
+        (F.told folder.old) (F.told folder.new) (O.written out.old) (O.written out.new)) }
+    ensures refused { result ≡ 4 → Asked words.now (λ command. StopsRefused command
+        (F.told folder.old) (F.told folder.new) (O.written out.old) (O.written out.new)) }
+    ensures unread { result ≡ 7 → Asked words.now (λ command. StopsUnread command
+        (F.told folder.old) (F.told folder.new) (O.written out.old) (O.written out.new)) }
+    ensures cut_short { result ≡ 8 → Asked words.now (λ command. IsCutShort command
+        (F.told folder.old) (F.told folder.new) (O.written out.old) (O.written out.new)) }
+    ensures memory { result ≡ 9 → Asked words.now (λ command. StopsUnmade command
+        (F.told folder.old) (F.told folder.new) (O.written out.old) (O.written out.new)) }
+    ensures too_long { result ≡ 10 → Asked words.now (λ command. StopsTooLong command
+        (F.told folder.old) (F.told folder.new) (O.written out.old) (O.written out.new)) }
+    ensures absent { result ≡ 11 → Asked words.now (λ command. StopsAbsent command
+        (F.told folder.old) (F.told folder.new) (O.written out.old) (O.written out.new)) }
     ensures words { (result ≡ 6) ↔ ((command : Asks) → IsCommand words.now command → ⊥) }
+    ensures unasked { result ≡ 6 → F.told folder.new ≡ F.told folder.old }
+    ensures unprinted { result ≡ 6 → O.written out.new ≡ O.written out.old }
+    ensures known { IsTrue (is_status result) }
+    ensures decided { IfSome (F.told folder.old) (λ told.
+        Asked words.now (λ command. IsDecided command (Some told) result)) }
+
+    // The faults that are counted.
     ensures read_fault { result ≡ 7 → Rose (F.load_faults folder.old) (F.load_faults folder.new) }
     ensures no_read_fault { result ≢ 7 → F.load_faults folder.new ≡ F.load_faults folder.old }
     ensures write_fault { result ≡ 8 → Rose (F.store_faults folder.old) (F.store_faults folder.new)
         ⊎ Rose (O.faults out.old) (O.faults out.new) }
     ensures no_store_fault { result ≢ 8 → F.store_faults folder.new ≡ F.store_faults folder.old }
     ensures no_write_fault { result ≢ 8 → O.faults out.new ≡ O.faults out.old }
-    ensures too_long { result ≡ 10
-        → Asked words.now (λ command. IsTooLong command (F.told folder.old)) }
-    ensures absent { result ≡ 11
-        → Asked words.now (λ command. IsAbsent command (F.told folder.old)) }
-    ensures known { IsTrue (is_status result) }
-    ensures decided { IfSome (F.told folder.old) (λ told.
-        Asked words.now (λ command. IsDecided command (Some told) result)) }
 
-    // What each leaves: the files and `out` as they were, or the certificate's file or the report cut
-    // short, and a line on err.
-    ensures cut_short { result ≡ 8 → Asked words.now (λ command. IsCutShort command
-        (F.told folder.old) (F.told folder.new) (O.written out.old) (O.written out.new)) }
-    ensures memory { result ≡ 9 → Asked words.now (λ command.
-        Untouched (F.told folder.old) (F.told folder.new) (O.written out.old) (O.written out.new)
-        ⊎ IsCutShort command (F.told folder.old) (F.told folder.new) (O.written out.old) (O.written out.new)) }
-    ensures untouched { 2 ≤ result → result ≢ 8 → result ≢ 9
-        → Untouched (F.told folder.old) (F.told folder.new) (O.written out.old) (O.written out.new) }
-    ensures unasked { result ≡ 6 → F.told folder.new ≡ F.told folder.old }
+    // What `err` is told: nothing of a report, else the line of the cause; of a certificate that is
+    // turned down the line of what was found.
     ensures silent { result ≤ 1 → E.written err.new ≡ E.written err.old }
     ensures line { 2 ≤ result → WritesLine (E.written err.old) (E.written err.new) result }
+    ensures found { result ≡ 3 → Asked words.now (λ command. TellsFault command
+        (F.told folder.old) (E.written err.old) (E.written err.new)) }
 {
     let end = work(alloc, words, folder, out);
     finish(alloc, err, end)

@@ -38,6 +38,7 @@ stored_more a b c name bytes done next after within p q =
           ∙ ap Some (sym (take_more bytes done (next - done) (omega arith))
           ∙ ap (λ (n : ℕ). take n bytes) (omega arith));
       others = λ other differ. k.others other differ ∙ h.others other differ;
+      loads = k.loads ∙ h.loads;
     }) p q
 
 -- a prefix of a piece, after what was done, is a prefix of the whole
@@ -51,16 +52,17 @@ front_of_piece bytes done count part within small =
 partly_more : (x y z : Told) (name bytes : List ℕ) (done count : ℕ) → done + count ≤ length bytes → HoldsWhole x y name (take done bytes)
     → (part : ℕ) → part ≤ length (take count (drop done bytes))
     → (z.held name ≡ y.held name) ⊎ (z.held name ≡ Some (bytes_under y name ++ take part (take count (drop done bytes))))
-    → ((other : List ℕ) → other ≢ name → z.held other ≡ y.held other)
+    → ((other : List ℕ) → other ≢ name → z.held other ≡ y.held other) → z.loads ≡ y.loads
     → HoldsPartly x z name [] bytes
-partly_more x y z name bytes done count within h part small (inl same) others =
+partly_more x y z name bytes done count within h part small (inl same) others loads =
     record {
       count = done;
       within = omega arith;
       partly = inr (same ∙ h.whole);
       others = λ other differ. others other differ ∙ h.others other differ;
+      loads = loads ∙ h.loads;
     }
-partly_more x y z name bytes done count within h part small (inr more) others =
+partly_more x y z name bytes done count within h part small (inr more) others loads =
     let short : part ≤ count = omega (arith, small, length-take {A = ℕ}) in
     record {
       count = done + part;
@@ -69,6 +71,7 @@ partly_more x y z name bytes done count within h part small (inr more) others =
           ∙ ap (λ (o : Option (List ℕ)). Some (unwrap_or o [] ++ take part (take count (drop done bytes)))) h.whole
           ∙ ap Some (front_of_piece bytes done count part within short));
       others = λ other differ. others other differ ∙ h.others other differ;
+      loads = loads ∙ h.loads;
     }
 
 -- a piece that was refused
@@ -78,19 +81,19 @@ stored_partly a b c name bytes done next after within p q =
     both_then a b c (λ x y. HoldsWhole x y name (take done bytes))
     (λ y z. HoldsPartly y z name (bytes_under y name) (take (next - done) (drop done bytes)))
     (λ x z. HoldsPartly x z name [] bytes)
-    (λ x y z h k. partly_more x y z name bytes done (next - done) (omega arith) h k.count k.within k.partly k.others) p q
+    (λ x y z h k. partly_more x y z name bytes done (next - done) (omega arith) h k.count k.within k.partly k.others k.loads) p q
 
 -- a create that was refused
 none_partly : (x y : Told) (name bytes : List ℕ) (part : ℕ) → (y.held name ≡ x.held name) ⊎ (y.held name ≡ Some (take part []))
-    → ((other : List ℕ) → other ≢ name → y.held other ≡ x.held other) → HoldsPartly x y name [] bytes
-none_partly x y name bytes part (inl same) others = record { count = 0; within = omega arith; partly = inl same; others = others }
-none_partly x y name bytes part (inr none) others =
-    record { count = 0; within = omega arith; partly = inr (none ∙ ap Some (take_all part [] (omega arith))); others = others }
+    → ((other : List ℕ) → other ≢ name → y.held other ≡ x.held other) → y.loads ≡ x.loads → HoldsPartly x y name [] bytes
+none_partly x y name bytes part (inl same) others loads = record { count = 0; within = omega arith; partly = inl same; others = others; loads = loads }
+none_partly x y name bytes part (inr none) others loads =
+    record { count = 0; within = omega arith; partly = inr (none ∙ ap Some (take_all part [] (omega arith))); others = others; loads = loads }
 
 created_partly : (a b : Option Told) (name bytes : List ℕ) → IsStoredPartly a b name [] → IsStoredPartly a b name bytes
 created_partly a b name bytes p =
     both_so a b (λ x y. HoldsPartly x y name [] []) (λ x y. HoldsPartly x y name [] bytes)
-    (λ x y h. none_partly x y name bytes h.count h.partly h.others) p
+    (λ x y h. none_partly x y name bytes h.count h.partly h.others h.loads) p
 
 -- all the bytes are a prefix of them
 whole_partly : (a b : Option Told) (name bytes : List ℕ) → IsStored a b name bytes → IsStoredPartly a b name bytes
@@ -101,6 +104,7 @@ whole_partly a b name bytes p =
       within = omega arith;
       partly = inr (h.whole ∙ ap Some (sym (take_all (length bytes) bytes (omega arith))));
       others = h.others;
+      loads = h.loads;
     }) p
 
 -- one call more

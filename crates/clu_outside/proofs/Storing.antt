@@ -22,19 +22,21 @@ from_error (Ok _) p e = absurd (false≢true e)
 from_error (Err _) p e = p
 
 -- where each name holds what it held, one of them holds it in part
-pub still_held : (before now : Told) (name first more : List ℕ) → ((other : List ℕ) → now.held other ≡ before.held other) → HoldsPartly before now name first more
-still_held before now name first more same = record { count = 0; within = omega arith; partly = inl (same name); others = λ other differ. same other }
+pub still_held : (before now : Told) (name first more : List ℕ) → ((other : List ℕ) → now.held other ≡ before.held other) → now.loads ≡ before.loads
+    → HoldsPartly before now name first more
+still_held before now name first more same loads =
+    record { count = 0; within = omega arith; partly = inl (same name); others = λ other differ. same other; loads = loads }
 
 -- a create that is refused and changes no file
 pub refused_create : {T : Type 0} (before now : Told) (name : List ℕ) (result : Result T WriteErr) → IsErr result → now.calls ≡ next_count before.calls
-    → ((other : List ℕ) → now.held other ≡ before.held other) → CreateTells (Some before) (Some now) name result
-refused_create before now name (Ok _) e calls same = absurd (false≢true e)
-refused_create before now name (Err _) e calls same =
-    record { later = calls; created = tt; refused = still_held before now name [] [] same }
+    → ((other : List ℕ) → now.held other ≡ before.held other) → now.loads ≡ before.loads → CreateTells (Some before) (Some now) name result
+refused_create before now name (Ok _) e calls same loads = absurd (false≢true e)
+refused_create before now name (Err _) e calls same loads =
+    record { later = calls; created = tt; refused = still_held before now name [] [] same loads }
 
 -- an append that is refused and changes no file
 pub refused_append : {T : Type 0} (before now : Told) (name bytes : List ℕ) (result : Result T WriteErr) → IsErr result → now.calls ≡ next_count before.calls
-    → ((other : List ℕ) → now.held other ≡ before.held other) → AppendTells (Some before) (Some now) name bytes result
-refused_append before now name bytes (Ok _) e calls same = absurd (false≢true e)
-refused_append before now name bytes (Err _) e calls same =
-    record { later = calls; appended = tt; refused = still_held before now name _ bytes same }
+    → ((other : List ℕ) → now.held other ≡ before.held other) → now.loads ≡ before.loads → AppendTells (Some before) (Some now) name bytes result
+refused_append before now name bytes (Ok _) e calls same loads = absurd (false≢true e)
+refused_append before now name bytes (Err _) e calls same loads =
+    record { later = calls; appended = tt; refused = still_held before now name _ bytes same loads }

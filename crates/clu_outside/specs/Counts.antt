@@ -1,17 +1,17 @@
--- Counts of faults and calls, which stand still at the last value of a `u64`.
-use Rattle.std.specs.Prelude.{ℕ, ◌+◌, ◌-◌, ◌≤◌, ◌^◌, min}
+-- Counts of faults and calls, which stand still at the last value of a `u64` and never fall.
+use Rattle.std.specs.Prelude.{ℕ, ◌+◌, ◌-◌, ◌≤◌, ◌^◌, max, min}
 
 -- the last value of a `u64`
 abbrev pub last_count : ℕ
 last_count = 2 ^ 64 - 1
 
--- one more, or the last value
+-- one more, or the last value; a count that is above it stands still
 abbrev pub next_count : ℕ → ℕ
-next_count count = min (count + 1) last_count
+next_count count = max count (min (count + 1) last_count)
 
--- so many more, or the last value
+-- so many more, or the last value; a count that is above it stands still
 abbrev pub later_count : ℕ → ℕ → ℕ
-later_count more count = min (count + more) last_count
+later_count more count = max count (min (count + more) last_count)
 
 -- a count is larger than before, or stands at the last value
 abbrev pub Rose : ℕ → ℕ → Type 0

@@ -1,20 +1,21 @@
 -- What a folder tells of its content, and what its calls tell of the folder.
-use Rattle.std.specs.Prelude.{◌≡◌, ◌≢◌, ◌⊎◌, ⊤, ℕ, ◌<◌, ◌≤◌, ◌+◌, ◌/◌, List, [], ◌++◌, length, take, Option, Some, None, unwrap_or, Result, IfOk, OnOk, OnErr, IsErrOf, IfSome, IsSomeAnd}
+use Rattle.std.specs.Prelude.{◌≡◌, ◌≢◌, ◌⊎◌, ⊤, ℕ, ◌<◌, ◌≤◌, ◌+◌, ◌/◌, List, [], ◌∷◌, ◌++◌, length, take, Option, Some, None, unwrap_or, Result, IfOk, OnOk, OnErr, IsErrOf, IfSome, IsSomeAnd}
 use Rattle.std.specs.Global.{Vec}
 use Rattle.clu_outside.specs.Counts.{Rose, next_count, last_count, later_count}
 use Rattle.clu_outside.specs.declared.sink.WriteErr.{WriteErr}
 use Rattle.clu_outside.specs.declared.folder.LoadErr.{LoadErr}
-use Rattle.clu_outside.specs.declared.folder.LoadErr.TheVariants.{Failed, Missing, TooLong}
+use Rattle.clu_outside.specs.declared.folder.LoadErr.TheVariants.{Failed, Missing, TooLong, Memory}
 
--- the bytes under each name, and how many calls the folder has had
+-- the bytes under each name, how many calls the folder has had, and the names of its loads, the first one first
 pub record Told : Type 0 where
   pub held : List ℕ → Option (List ℕ)
   pub calls : ℕ
+  pub loads : List (List ℕ)
 
--- what is told after one call more that changed no file
-abbrev pub one_call_later : Option Told → Option Told
-one_call_later None = None
-one_call_later (Some told) = Some (record { held = told.held; calls = next_count told.calls })
+-- what is told after a load of this name
+abbrev pub after_load : List ℕ → Option Told → Option Told
+after_load name None = None
+after_load name (Some told) = Some (record { held = told.held; calls = next_count told.calls; loads = told.loads ++ name ∷ [] })
 
 -- where the folder tells, it has these bytes under the name
 abbrev pub Holds : Option Told → List ℕ → List ℕ → Type 0
@@ -28,10 +29,12 @@ Lacks told name = IfSome told (λ folder. folder.held name ≡ None)
 abbrev pub HoldsMore : Option Told → List ℕ → ℕ → Type 0
 HoldsMore told name limit = IfSome told (λ folder. IsSomeAnd (folder.held name) (λ bytes. limit < length bytes))
 
--- A load is one call and changes no file. It gives the bytes under the name where they are within the limit, and
--- else says that there is no such file or that it is too long. The last value of a `u64` is no limit.
+-- A load is one call, is noted under its name and changes no file; want of memory may come before it is noted. It gives the
+-- bytes under the name where they are within the limit, and else says that there is no such file or that it is too long. The
+-- last value of a `u64` is no limit.
 pub record LoadTells (old new : Option Told) (name : List ℕ) (limit : ℕ) (result : Result (Vec ℕ) LoadErr) : Type 0 where
-  pub later : new ≡ one_call_later old
+  pub later : (IsErrOf result Memory → ⊥) → new ≡ after_load name old
+  pub memory : IsErrOf result Memory → (new ≡ old) ⊎ (new ≡ after_load name old)
   pub found : IfOk result (λ bytes. Holds old name bytes.items)
   pub within : limit < last_count → IfOk result (λ bytes. length bytes.items ≤ limit)
   pub missing : IsErrOf result Missing → Lacks old name
@@ -58,17 +61,19 @@ bytes_under told name = unwrap_or (told.held name) []
 abbrev pub SameElsewhere : Told → Told → List ℕ → Type 0
 SameElsewhere before now name = (other : List ℕ) → other ≢ name → now.held other ≡ before.held other
 
--- the name holds these bytes, and other names what they held
+-- the name holds these bytes, other names what they held, and nothing was loaded
 pub record HoldsWhole (before now : Told) (name bytes : List ℕ) : Type 0 where
   pub whole : now.held name ≡ Some bytes
   pub others : SameElsewhere before now name
+  pub loads : now.loads ≡ before.loads
 
--- the name holds what it held, or the first bytes and a prefix of more, and other names what they held
+-- the name holds what it held, or the first bytes and a prefix of more, other names what they held, and nothing was loaded
 pub record HoldsPartly (before now : Told) (name first more : List ℕ) : Type 0 where
   pub count : ℕ
   pub within : count ≤ length more
   pub partly : (now.held name ≡ before.held name) ⊎ (now.held name ≡ Some (first ++ take count more))
   pub others : SameElsewhere before now name
+  pub loads : now.loads ≡ before.loads
 
 -- where the folder tells, the name holds the bytes and nothing else has changed
 abbrev pub IsStored : Option Told → Option Told → List ℕ → List ℕ → Type 0

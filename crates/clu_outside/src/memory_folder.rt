@@ -1,4 +1,4 @@
-ghost use Rattle.std.specs.Prelude.{◌≡◌, ◌↔◌, ◌++◌, Some, None, OnOk, OnErr, IfErr, IsErr, IsErrOf, IsTrue, is_ok, if◌then◌else◌, MatchOption, Contains};
+ghost use Rattle.std.specs.Prelude.{◌≡◌, ◌↔◌, ◌⊎◌, [], ◌∷◌, ◌++◌, Some, None, OnOk, OnErr, IfErr, IsErr, IsErrOf, IsTrue, is_ok, if◌then◌else◌, MatchOption, Contains, map, string_bytes};
 ghost use Rattle.clu_outside.specs.Counts.{next_count};
 ghost use Rattle.clu_outside.specs.Folder.{LoadTells, LoadCause, CreateTells, AppendTells, SameElsewhere, bytes_under};
 ghost use Rattle.clu_outside.specs.Sink.{WriteCause};
@@ -15,6 +15,7 @@ pub struct MemoryFolder {
     files: BTreeMap<String, Vec<u8>>,
     failing: Vec<u64>,
     calls: u64,
+    loaded: Vec<String>,
     load_faults: u64,
     store_faults: u64,
 }
@@ -24,6 +25,7 @@ impl MemoryFolder {
     pub fn new(alloc: Global, failing: Vec<u64>) -> Self
         ensures empty { (told_by result).held ≡ λ _. None }
         ensures calls { (told_by result).calls ≡ 0 }
+        ensures loads { (told_by result).loads ≡ [] }
         ensures load_faults { load_faults_of result ≡ 0 }
         ensures store_faults { store_faults_of result ≡ 0 }
         ensures failing { failing_of result ≡ failing.items }
@@ -33,6 +35,7 @@ impl MemoryFolder {
             files: BTreeMap::new(alloc),
             failing,
             calls: 0,
+            loaded: Vec::new(alloc),
             load_faults: 0,
             store_faults: 0,
         }
@@ -53,6 +56,25 @@ impl MemoryFolder {
         ensures { result ≡ (told_by self.now).calls }
     {
         self.calls
+    }
+
+    /// The names of the loads that it has had, the first one first.
+    pub fn loads(&self) -> &[String]
+        ensures { map string_bytes result.now ≡ (told_by self.now).loads }
+    {
+        &self.loaded
+    }
+
+    /// Notes the name of a load. Without memory for it nothing changes.
+    fn note(&mut self, name: &str) -> Result<(), AllocError>
+        ensures noted { OnOk result
+            ((told_by self.new).loads ≡ (told_by self.old).loads ++ name.now ∷ []) }
+        ensures err { OnErr result ((told_by self.new).loads ≡ (told_by self.old).loads) }
+        ensures others { self.new ≡ record self.old { loaded = self.new.loaded } }
+    {
+        let name = String::from_str(self.alloc, name)?;
+        self.loaded.push(name)?;
+        Ok(())
     }
 
     fn put_at(&mut self, name: &str, bytes: Vec<u8>) -> Result<(), AllocError>
@@ -99,6 +121,7 @@ impl MemoryFolder {
             ≡ (if is_ok result then store_faults_of self.old
             else next_count (store_faults_of self.old)) }
         ensures loads { load_faults_of self.new ≡ load_faults_of self.old }
+        ensures names { (told_by self.new).loads ≡ (told_by self.old).loads }
         ensures listed { IsErr result
             ↔ Contains (failing_of self.old) (next_count (told_by self.old).calls) }
         ensures failing { failing_of self.new ≡ failing_of self.old }
@@ -137,9 +160,13 @@ impl Folder for MemoryFolder {
         ensures counted { IsErrOf result LoadErr.Failed
             → load_faults_of self.new ≡ next_count (load_faults_of self.old) }
         ensures listed { IsErrOf result LoadErr.Failed
-            ↔ Contains (failing_of self.old) (next_count (told_by self.old).calls) }
+            → Contains (failing_of self.old) (next_count (told_by self.old).calls) }
+        ensures fails { Contains (failing_of self.old) (next_count (told_by self.old).calls)
+            → IsErrOf result LoadErr.Failed
+            ⊎ (IsErrOf result LoadErr.Memory × (told_by self.new ≡ told_by self.old)) }
         ensures failing { failing_of self.new ≡ failing_of self.old }
     {
+        self.note(name)?;
         if self.next_is_listed() {
             self.load_faults = self.load_faults.saturating_add(1);
             return Err(LoadErr::Failed);
@@ -206,6 +233,22 @@ mod tests {
         assert_eq!(rt; folder.load(alloc, "h", 2).err(), Some(LoadErr::Missing));
         assert_eq!(rt; folder.load_faults, 0);
         assert_eq!(rt; folder.calls, 3);
+        Ok(())
+    }
+
+    #[test]
+    fn loads_are_noted_in_their_order(rt: HostRuntime) -> Result<(), Fail> {
+        let alloc = rt.alloc();
+        let mut folder = MemoryFolder::new(alloc, [2].to_vec(alloc)?);
+        folder.put("g", b"abc")?;
+        for (index, name) in [(0, "g"), (1, "g"), (2, "h")] {
+            let _ = folder.load(alloc, name, 3);
+            let noted = folder.loads().get(index).ok_or("a name")?;
+            assert!(rt; noted.as_str() == name);
+        }
+        assert_eq!(rt; folder.create("h"), Ok(()));
+        assert_eq!(rt; folder.append("h", b"ab"), Ok(()));
+        assert_eq!(rt; folder.loads().len(), 3);
         Ok(())
     }
 

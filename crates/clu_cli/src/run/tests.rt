@@ -64,11 +64,12 @@ const FILES: [(&str, &str); 13] = [
 ];
 
 /// A run over these files: its words, the numbers of the calls of the folder, of out and of err
-/// that are to fail, and what must come of it.
+/// that are to fail, the files that it must load, and what must come of it.
 #[derive(Clone, Copy)]
 struct Case {
     words: &'static [&'static str],
     failing: [&'static [u64]; 3],
+    loads: &'static [&'static str],
     status: u8,
     out: &'static str,
     err: &'static str,
@@ -78,6 +79,7 @@ const CASES: [Case; 9] = [
     Case {
         words: &["solve", "alone"],
         failing: [&[], &[], &[]],
+        loads: &["alone"],
         status: 0,
         out: ALONE_REPORT,
         err: "",
@@ -85,6 +87,7 @@ const CASES: [Case; 9] = [
     Case {
         words: &["solve", "path", "--branchings", "1"],
         failing: [&[], &[], &[]],
+        loads: &["path"],
         status: 0,
         out: PATH_REPORT,
         err: "",
@@ -92,6 +95,7 @@ const CASES: [Case; 9] = [
     Case {
         words: &["solve", "path", "--branchings", "00"],
         failing: [&[], &[], &[]],
+        loads: &["path"],
         status: 1,
         out: PATH_GAP_REPORT,
         err: "",
@@ -99,6 +103,7 @@ const CASES: [Case; 9] = [
     Case {
         words: &["solve", "triangle"],
         failing: [&[], &[], &[]],
+        loads: &["triangle"],
         status: 0,
         out: TRIANGLE_REPORT,
         err: "",
@@ -106,6 +111,7 @@ const CASES: [Case; 9] = [
     Case {
         words: &["solve", "loop"],
         failing: [&[], &[], &[]],
+        loads: &["loop"],
         status: 4,
         out: "",
         err: "clu: graph Refused\n",
@@ -113,6 +119,7 @@ const CASES: [Case; 9] = [
     Case {
         words: &["solve", "path"],
         failing: [&[1], &[], &[]],
+        loads: &["path"],
         status: 7,
         out: "",
         err: "clu: read fault\n",
@@ -120,6 +127,7 @@ const CASES: [Case; 9] = [
     Case {
         words: &["solve", "path"],
         failing: [&[2], &[1], &[]],
+        loads: &["path"],
         status: 8,
         out: "",
         err: "clu: write fault\n",
@@ -127,6 +135,7 @@ const CASES: [Case; 9] = [
     Case {
         words: &["solve", "ring"],
         failing: [&[], &[], &[]],
+        loads: &["ring"],
         status: 11,
         out: "",
         err: "clu: no file\n",
@@ -134,6 +143,7 @@ const CASES: [Case; 9] = [
     Case {
         words: &["solve", "loop"],
         failing: [&[], &[], &[1]],
+        loads: &["loop"],
         status: 4,
         out: "",
         err: "",
@@ -166,10 +176,11 @@ const WRONG_WORDS: [&[&str]; 14] = [
 ];
 
 /// The star and a certificate that is checked against it.
-const CHECKS: [Case; 8] = [
+const CHECKS: [Case; 11] = [
     Case {
         words: &["check", "star", "valid"],
         failing: [&[], &[], &[]],
+        loads: &["star", "valid"],
         status: 0,
         out: ACCEPTED,
         err: "",
@@ -177,6 +188,7 @@ const CHECKS: [Case; 8] = [
     Case {
         words: &["check", "star", "low"],
         failing: [&[], &[], &[]],
+        loads: &["star", "low"],
         status: 0,
         out: ACCEPTED_LOW,
         err: "",
@@ -184,6 +196,7 @@ const CHECKS: [Case; 8] = [
     Case {
         words: &["check", "star", "high"],
         failing: [&[], &[], &[]],
+        loads: &["star", "high"],
         status: 3,
         out: "",
         err: "clu: rejected 9 1\n",
@@ -191,6 +204,7 @@ const CHECKS: [Case; 8] = [
     Case {
         words: &["check", "star", "four"],
         failing: [&[], &[], &[]],
+        loads: &["star", "four"],
         status: 3,
         out: "",
         err: "clu: rejected 4 3\n",
@@ -198,6 +212,7 @@ const CHECKS: [Case; 8] = [
     Case {
         words: &["check", "star", "pair"],
         failing: [&[], &[], &[]],
+        loads: &["star", "pair"],
         status: 3,
         out: "",
         err: "clu: rejected 5 item 1\n",
@@ -205,6 +220,7 @@ const CHECKS: [Case; 8] = [
     Case {
         words: &["check", "star", "leaf"],
         failing: [&[], &[], &[]],
+        loads: &["star", "leaf"],
         status: 3,
         out: "",
         err: "clu: rejected 7 item 1\n",
@@ -212,13 +228,39 @@ const CHECKS: [Case; 8] = [
     Case {
         words: &["check", "star", "open"],
         failing: [&[], &[], &[]],
+        loads: &["star", "open"],
         status: 3,
         out: "",
         err: "clu: certificate line 13\n",
     },
     Case {
+        words: &["check", "loop", "valid"],
+        failing: [&[], &[], &[]],
+        loads: &["loop"],
+        status: 4,
+        out: "",
+        err: "clu: graph Refused\n",
+    },
+    Case {
+        words: &["check", "star", "valid"],
+        failing: [&[2], &[], &[]],
+        loads: &["star", "valid"],
+        status: 7,
+        out: "",
+        err: "clu: read fault\n",
+    },
+    Case {
+        words: &["check", "ring", "valid"],
+        failing: [&[], &[], &[]],
+        loads: &["ring"],
+        status: 11,
+        out: "",
+        err: "clu: no file\n",
+    },
+    Case {
         words: &["check", "star", "missing"],
         failing: [&[], &[], &[]],
+        loads: &["star", "missing"],
         status: 11,
         out: "",
         err: "clu: no file\n",
@@ -237,6 +279,7 @@ const STORES: [Stored; 5] = [
         case: Case {
             words: &["solve", "star", "--certificate", "old", "--branchings", "0"],
             failing: [&[], &[], &[]],
+            loads: &["star"],
             status: 1,
             out: STAR_REPORT,
             err: "",
@@ -255,6 +298,7 @@ const STORES: [Stored; 5] = [
                 "star",
             ],
             failing: [&[], &[], &[]],
+            loads: &["star"],
             status: 1,
             out: STAR_REPORT,
             err: "",
@@ -266,6 +310,7 @@ const STORES: [Stored; 5] = [
         case: Case {
             words: &["solve", "star", "--certificate", "old"],
             failing: [&[2], &[], &[]],
+            loads: &["star"],
             status: 8,
             out: "",
             err: "clu: write fault\n",
@@ -277,6 +322,7 @@ const STORES: [Stored; 5] = [
         case: Case {
             words: &["solve", "star", "--certificate", "old"],
             failing: [&[3], &[], &[]],
+            loads: &["star"],
             status: 8,
             out: "",
             err: "clu: write fault\n",
@@ -288,6 +334,7 @@ const STORES: [Stored; 5] = [
         case: Case {
             words: &["solve", "star", "--branchings", "0", "--certificate", "old"],
             failing: [&[], &[1], &[]],
+            loads: &["star"],
             status: 8,
             out: "",
             err: "clu: write fault\n",
@@ -332,6 +379,20 @@ fn holds(folder: &MemoryFolder, name: &str, text: &str) -> bool {
     }
 }
 
+/// Whether the folder has had loads of these names, in their order, and no others.
+fn has_loaded(folder: &MemoryFolder, names: &[&str]) -> bool {
+    let loads = folder.loads();
+    if loads.len() != names.len() {
+        return false;
+    }
+    for (load, name) in loads.iter().zip(names) {
+        if load.as_str() != *name {
+            return false;
+        }
+    }
+    true
+}
+
 fn expect(rt: &impl Abort, alloc: Global, case: &Case) -> Result<MemoryFolder, Fail> {
     let words = words_of(alloc, case.words)?;
     let [calls, writes, lines] = case.failing;
@@ -340,6 +401,7 @@ fn expect(rt: &impl Abort, alloc: Global, case: &Case) -> Result<MemoryFolder, F
     let mut err = MemorySink::new(alloc, lines.to_vec(alloc)?);
     let status = run(alloc, &words, &mut folder, &mut out, &mut err);
     assert_eq!(rt; status, case.status);
+    assert!(rt; has_loaded(&folder, case.loads));
     assert!(rt; out.bytes() == case.out.as_bytes());
     assert!(rt; err.bytes() == case.err.as_bytes());
     Ok(folder)
@@ -391,6 +453,7 @@ fn other_words_are_refused(rt: HostRuntime) -> Result<(), Fail> {
         let case = Case {
             words,
             failing: [&[1], &[], &[]],
+            loads: &[],
             status: 6,
             out: "",
             err: "clu: words\n",

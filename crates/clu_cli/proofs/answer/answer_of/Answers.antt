@@ -8,7 +8,7 @@ use Rattle.clu_pace.specs.Numbers.{graph_names}
 use Rattle.clu_objective.specs.Edits.{edits}
 use Rattle.clu_search.specs.Count.{count}
 use Rattle.clu_cli.specs.Report.{report}
-use Rattle.clu_cli.proofs.Answered.{all_made, all_permitted, none_fewer, one_where, value_edits, zero_where}
+use Rattle.clu_cli.proofs.Answered.{all_made, all_permitted, at_most_one, none_fewer, one_where, value_edits, zero_where}
 use Rattle.clu_cli.proofs.answer.answer_of.Goals as goal
 
 pub returns-clause-answer : goal.returns-clause-answer
@@ -42,6 +42,7 @@ returns-clause-answer c =
           (λ labels. told.none_better (slice_index labels) (all_permitted graph.n start unbound (slice_index labels)));
       text = c.in_ok-text.ensures
           ∙ (λ i. report (record { vertices = c.n-2.result; value = value_fits i; bound = bound_fits i; branchings = found.branchings }) (graph_names graph) found.partition);
+      known = at_most_one c.is_optimal.result;
       optimal = zero_where c.is_optimal.result (cert.value ≡ cert.bound) equal;
       gap = λ one. all_made found.end (cert.value ≡ cert.bound) found.branchings c.args.branchings told.optimal told.gap
           (one_where c.is_optimal.result (cert.value ≡ cert.bound) equal one);
