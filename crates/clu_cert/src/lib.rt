@@ -20,6 +20,3 @@ mod write;
 pub use certificate::{Certificate, Item, Proof};
 pub use read::{BadText, CertError, read_cert};
 pub use write::write_cert;
-
-#[cfg(test)]
-mod tests;

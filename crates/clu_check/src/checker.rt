@@ -128,6 +128,3 @@ fn check_root<'p>(
         None => Ok(state),
     }
 }
-
-#[cfg(test)]
-mod tests;

@@ -58,6 +58,3 @@ pub fn violated_claws<S: Situation>(
     let shares = table_of(alloc, state, groups, point)?;
     all_claws(alloc, groups, point, &shares)
 }
-
-#[cfg(test)]
-mod tests;

@@ -97,6 +97,3 @@ pub fn bound_node<S: Situation>(
         pair,
     })
 }
-
-#[cfg(test)]
-mod tests;

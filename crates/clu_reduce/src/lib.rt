@@ -20,6 +20,3 @@ pub use free::is_free;
 pub use search::find;
 pub use step::{Kind, Step};
 pub use sweep::reduce_all;
-
-#[cfg(test)]
-mod tests;

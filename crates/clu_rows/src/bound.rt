@@ -148,6 +148,3 @@ pub fn leaf_bound<S: Situation>(
     }
     Ok(sound_bound(state, leaf, scratch))
 }
-
-#[cfg(test)]
-mod tests;

@@ -11,8 +11,6 @@ mod near;
 mod packing;
 mod prices;
 mod row;
-#[cfg(test)]
-mod samples;
 
 pub use bound::leaf_bound;
 pub use clu_partition::Residual;

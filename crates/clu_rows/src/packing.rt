@@ -427,6 +427,3 @@ pub fn pack<S: Situation>(alloc: Global, state: &S) -> Result<Leaf, AllocError>
         rows: packing.rows,
     })
 }
-
-#[cfg(test)]
-mod tests;

@@ -69,6 +69,3 @@ pub fn solve(
         end,
     })
 }
-
-#[cfg(test)]
-mod tests;

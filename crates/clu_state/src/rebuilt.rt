@@ -250,6 +250,3 @@ fn merge_weights(
         }
     }
 }
-
-#[cfg(test)]
-mod tests;

@@ -251,6 +251,3 @@ impl<'p> Tree<'p> {
         Ok(items)
     }
 }
-
-#[cfg(test)]
-mod tests;

@@ -1,5 +1,0 @@
-use Rattle.std.proofs.Common.{◌≡◌, take}
-use Rattle.clu_tree.proofs.tree.tests.rebuilt.Given as goal
-
-abbrev pub invariant-loop-d : goal.invariant-loop-d
-invariant-loop-d g l = l.state ≡ record { pairs = l.pairs; start = l.start; members = l.members; decisions = take l.d-index l.path }

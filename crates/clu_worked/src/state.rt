@@ -1,0 +1,162 @@
+//! Weights between groups of a five-cycle, and which of them are apart, worked by hand.
+
+use crate::fixtures::{CYCLE, Case, Decisions, Weights, is_met};
+use clu_partition::{Vertex, is_member};
+use clu_state::{Decision, Rebuilt, Situation};
+use std::alloc::{AllocError, Global};
+use std::test::Fail;
+
+/// Decisions on the five-cycle, and what comes of them.
+struct Decided {
+    name: &'static str,
+    decisions: Decisions,
+    /// The weight between two groups.
+    weights: &'static [(u32, u32, i128)],
+    /// Whether two groups are apart.
+    apart: &'static [(u32, u32, bool)],
+    /// The weight inside the groups.
+    fixed: i128,
+}
+
+const CASES: [Decided; 4] = [
+    Decided {
+        name: "no decision",
+        decisions: &[],
+        weights: &[(0, 1, 2)],
+        apart: &[],
+        fixed: 0,
+    },
+    Decided {
+        name: "a decision merges the weights of two groups",
+        decisions: &[(0, 1, true)],
+        weights: &[(0, 3, -4), (1, 3, -4), (0, 2, 0)],
+        apart: &[],
+        fixed: 2,
+    },
+    Decided {
+        name: "two that are apart",
+        decisions: &[(0, 3, false)],
+        weights: &[],
+        apart: &[(1, 3, false)],
+        fixed: 0,
+    },
+    Decided {
+        name: "a group is apart from what a part of it was",
+        decisions: &[(0, 3, false), (0, 1, true)],
+        weights: &[],
+        apart: &[(1, 3, true), (1, 2, false)],
+        fixed: 2,
+    },
+];
+
+/// The weight between the groups of two members and whether they are apart, if they are two groups.
+fn between<S: Situation>(state: &S, u: u32, v: u32) -> Option<(i128, bool)> {
+    let (u, v) = (Vertex(u), Vertex(v));
+    let members = state.members();
+    if !is_member(members, u) || !is_member(members, v) {
+        return None;
+    }
+    if state.group_of(u) == state.group_of(v) {
+        return None;
+    }
+    Some((state.weight(u, v), state.is_apart(u, v)))
+}
+
+/// Whether the state is as the case says.
+fn is_as_wanted<S: Situation>(state: &S, case: &Decided) -> bool {
+    let mut well = state.fixed_value() == case.fixed;
+    for (u, v, weight) in case.weights {
+        well = well && between(state, *u, *v).is_some_and(|found| found.0 == *weight);
+    }
+    for (u, v, apart) in case.apart {
+        well = well && between(state, *u, *v).is_some_and(|found| found.1 == *apart);
+    }
+    well
+}
+
+impl Case for Decided {
+    fn n(&self) -> u32 {
+        5
+    }
+
+    fn weights(&self) -> Weights {
+        CYCLE
+    }
+
+    fn decisions(&self) -> Decisions {
+        self.decisions
+    }
+
+    fn holds(&self, _: Global, state: &mut Rebuilt) -> Result<bool, AllocError> {
+        Ok(is_as_wanted(state, self))
+    }
+}
+
+#[test]
+fn each_state_has_its_weights(rt: HostRuntime) -> Result<(), Fail> {
+    for case in &CASES {
+        assert!(rt; is_met(&rt, rt.alloc(), case)?, "{}", case.name);
+    }
+    Ok(())
+}
+
+/// Makes one group of the first free pair, where there is one.
+fn join_first<S: Situation>(alloc: Global, state: &mut S) -> Result<bool, AllocError> {
+    let pairs = state.free_pairs(alloc)?;
+    if pairs.is_empty() {
+        return Ok(false);
+    }
+    let first = pairs[0];
+    state.decide(Decision::Together(first.0, first.1))?;
+    Ok(true)
+}
+
+fn are_first(vertices: &[Vertex]) -> bool {
+    match vertices {
+        [v] => *v == Vertex(0),
+        _ => false,
+    }
+}
+
+/// Whether four first free pairs make one group, after which there is none.
+fn joins_all<S: Situation>(alloc: Global, state: &mut S) -> Result<bool, AllocError> {
+    let mut well = true;
+    for _ in 0..4 {
+        well = join_first(alloc, state)? && well;
+    }
+    let more = join_first(alloc, state)?;
+    let leaders = state.leaders(alloc)?;
+    Ok(
+        well && !more
+            && are_first(leaders.as_slice())
+            && state.decisions().len() == 4
+            && state.fixed_value() == 0,
+    )
+}
+
+/// The five-cycle without decisions, of which first free pairs are joined.
+struct Joined;
+
+impl Case for Joined {
+    fn n(&self) -> u32 {
+        5
+    }
+
+    fn weights(&self) -> Weights {
+        CYCLE
+    }
+
+    fn decisions(&self) -> Decisions {
+        &[]
+    }
+
+    fn holds(&self, alloc: Global, state: &mut Rebuilt) -> Result<bool, AllocError> {
+        joins_all(alloc, state)
+    }
+}
+
+#[test]
+fn the_first_free_pairs_join_a_state_into_one_group(rt: HostRuntime) -> Result<(), Fail> {
+    assert!(rt; is_met(&rt, rt.alloc(), &Joined)?);
+    Ok(())
+}
