@@ -73,6 +73,11 @@ pushed t cuts u v w a b c e f g =
     ap (λ x. cond t (cuts ++ star x (v ∷ w ∷ []) ∷ []) cuts) e ∙ ap (λ x. cond t (cuts ++ star a (x ∷ w ∷ []) ∷ []) cuts) f ∙ ap (λ x. cond t (cuts ++ star a (b ∷ x ∷ []) ∷ []) cuts) g
 
 -- ---- a walk over a list, of which each item has cuts with those after it
+-- at most 50 are had, and what is had and what is still to be found are the front of the whole
+pub record Goes (p : Point) (cuts rest whole : List Cut) : Type 0 where
+  pub room : length cuts ≤ 50
+  pub left : take 50 (cuts ++ broken p rest) ≡ whole
+
 -- what one item adds, and what is left
 pub item_left : (p : Point) (mine rest cuts new whole : List Cut) → new ≡ take 50 (cuts ++ broken p mine)
     → take 50 (cuts ++ broken p (mine ++ rest)) ≡ whole → take 50 (new ++ broken p rest) ≡ whole
@@ -86,42 +91,46 @@ pub new_room : (xs new : List Cut) → new ≡ take 50 xs → length new ≤ 50
 new_room xs new e = let h = ap length e in let k = front_short 50 xs in omega (arith, h, k)
 
 -- at the end nothing is left
-pub none_left : (p : Point) (rest cuts whole : List Cut) → rest ≡ [] → length cuts ≤ 50 → take 50 (cuts ++ broken p rest) ≡ whole → cuts ≡ whole
-none_left p rest cuts whole e r h =
-    sym (few 50 cuts r) ∙ ap (λ cs. take 50 cs) (sym (append-nil cuts)) ∙ ap (λ gs. take 50 (cuts ++ broken p gs)) (sym e) ∙ h
+pub none_left : (p : Point) (list : List ℕ → List Cut) (groups : List ℕ) (i : ℕ) (cuts whole : List Cut) → list [] ≡ [] → length groups ≤ i
+    → Goes p cuts (list (drop i groups)) whole → cuts ≡ whole
+none_left p list groups i cuts whole none e h =
+    sym (few 50 cuts h.room) ∙ ap (λ cs. take 50 cs) (sym (append-nil cuts))
+    ∙ ap (λ gs. take 50 (cuts ++ broken p gs)) (sym (ap list (drop_all i groups e) ∙ none)) ∙ h.left
 
 -- the walk's next item: `list` is what all items add, `mine` what the first of them adds
 next_item : (p : Point) (mine : ℕ → List ℕ → List Cut) (list : List ℕ → List Cut) → ((x : ℕ) (xs : List ℕ) → list (x ∷ xs) ≡ mine x xs ++ list xs)
     → (groups : List ℕ) (i : ℕ) (cuts new whole : List Cut) → i < length groups
     → new ≡ take 50 (cuts ++ broken p (mine (slice_index groups i) (drop (i + 1) groups)))
-    → take 50 (cuts ++ broken p (list (drop i groups))) ≡ whole → take 50 (new ++ broken p (list (drop (i + 1) groups))) ≡ whole
-next_item p mine list split groups i cuts new whole l is h =
-    item_left p (mine (slice_index groups i) (drop (i + 1) groups)) (list (drop (i + 1) groups)) cuts new whole is
-    (ap (λ cs. take 50 (cuts ++ broken p cs)) (sym (ap list (drop_more groups i 0 l) ∙ split (slice_index groups i) (drop (i + 1) groups))) ∙ h)
+    → Goes p cuts (list (drop i groups)) whole → Goes p new (list (drop (i + 1) groups)) whole
+next_item p mine list split groups i cuts new whole l is h = record {
+  room = new_room _ new is;
+  left = item_left p (mine (slice_index groups i) (drop (i + 1) groups)) (list (drop (i + 1) groups)) cuts new whole is
+      (ap (λ cs. take 50 (cuts ++ broken p cs)) (sym (ap list (drop_more groups i 0 l) ∙ split (slice_index groups i) (drop (i + 1) groups))) ∙ h.left);
+}
 
 pub second_left : (p : Point) (a b : ℕ) (groups : List ℕ) (cuts new whole : List Cut) → b < length groups
     → new ≡ take 50 (cuts ++ broken p (pairs_with a (slice_index groups b) (drop (b + 1) groups)))
-    → take 50 (cuts ++ broken p (with_two a (drop b groups))) ≡ whole → take 50 (new ++ broken p (with_two a (drop (b + 1) groups))) ≡ whole
+    → Goes p cuts (with_two a (drop b groups)) whole → Goes p new (with_two a (drop (b + 1) groups)) whole
 second_left p a b groups = next_item p (pairs_with a) (with_two a) (λ x xs. refl) groups b
 
 pub centre_left : (p : Point) (a : ℕ) (groups : List ℕ) (cuts new whole : List Cut) → a < length groups
     → new ≡ take 50 (cuts ++ broken p (with_two (slice_index groups a) groups))
-    → take 50 (cuts ++ broken p (triangles_at groups (drop a groups))) ≡ whole → take 50 (new ++ broken p (triangles_at groups (drop (a + 1) groups))) ≡ whole
+    → Goes p cuts (triangles_at groups (drop a groups)) whole → Goes p new (triangles_at groups (drop (a + 1) groups)) whole
 centre_left p a groups = next_item p (λ x _. with_two x groups) (triangles_at groups) (λ x xs. refl) groups a
 
 pub third_left : (p : Point) (a b c : ℕ) (groups : List ℕ) (cuts new whole : List Cut) → c < length groups
     → new ≡ take 50 (cuts ++ broken p (triples_with a b (slice_index groups c) (drop (c + 1) groups)))
-    → take 50 (cuts ++ broken p (with_two_more a b (drop c groups))) ≡ whole → take 50 (new ++ broken p (with_two_more a b (drop (c + 1) groups))) ≡ whole
+    → Goes p cuts (with_two_more a b (drop c groups)) whole → Goes p new (with_two_more a b (drop (c + 1) groups)) whole
 third_left p a b c groups = next_item p (triples_with a b) (with_two_more a b) (λ x xs. refl) groups c
 
 pub claw_second_left : (p : Point) (a b : ℕ) (groups : List ℕ) (cuts new whole : List Cut) → b < length groups
     → new ≡ take 50 (cuts ++ broken p (with_two_more a (slice_index groups b) (drop (b + 1) groups)))
-    → take 50 (cuts ++ broken p (with_three a (drop b groups))) ≡ whole → take 50 (new ++ broken p (with_three a (drop (b + 1) groups))) ≡ whole
+    → Goes p cuts (with_three a (drop b groups)) whole → Goes p new (with_three a (drop (b + 1) groups)) whole
 claw_second_left p a b groups = next_item p (with_two_more a) (with_three a) (λ x xs. refl) groups b
 
 pub claw_centre_left : (p : Point) (a : ℕ) (groups : List ℕ) (cuts new whole : List Cut) → a < length groups
     → new ≡ take 50 (cuts ++ broken p (with_three (slice_index groups a) groups))
-    → take 50 (cuts ++ broken p (claws_at groups (drop a groups))) ≡ whole → take 50 (new ++ broken p (claws_at groups (drop (a + 1) groups))) ≡ whole
+    → Goes p cuts (claws_at groups (drop a groups)) whole → Goes p new (claws_at groups (drop (a + 1) groups)) whole
 claw_centre_left p a groups = next_item p (λ x _. with_three x groups) (claws_at groups) (λ x xs. refl) groups a
 
 pub pushed_three : (t : Bool) (cuts : List Cut) (u v w x a b c d : ℕ) → u ≡ a → v ≡ b → w ≡ c → x ≡ d
@@ -140,7 +149,8 @@ passed p f rest cuts r h = sym (few 50 cuts r) ∙ ap (λ cs. take 50 cs) (sym (
 
 -- ---- the answer of a search
 -- what holds of the first ones over the state's groups holds of what is found over the same list
-pub over_first : {E : Type 0} (p : Point) (kind : List ℕ → List ℕ → List Cut) (groups leaders : List ℕ) (P : List Cut → Type 0) (r : Result (List Cut) E) → groups ≡ leaders
-    → ((cuts : List Cut) → cuts ≡ first_broken p (kind leaders leaders) → P cuts) → IfOk r (λ cuts. cuts ≡ first_broken p (kind groups groups)) → IfOk r P
-over_first p kind groups leaders P r same h ok =
-    IfOk-weaker r (λ cuts. cuts ≡ first_broken p (kind groups groups)) P (λ cuts is. h cuts (is ∙ ap (λ gs. first_broken p (kind gs gs)) same)) ok
+pub over_first : {E : Type 0} (p q : Point) → q ≡ p → (kind : List ℕ → List ℕ → List Cut) (groups leaders : List ℕ) (P : List Cut → Type 0) (r : Result (List Cut) E)
+    → groups ≡ leaders → ((cuts : List Cut) → cuts ≡ first_broken p (kind leaders leaders) → P cuts) → IfOk r (λ cuts. cuts ≡ first_broken q (kind groups groups)) → IfOk r P
+over_first p q point kind groups leaders P r same h ok =
+    IfOk-weaker r (λ cuts. cuts ≡ first_broken q (kind groups groups)) P
+    (λ cuts is. h cuts (is ∙ ap (λ gs. first_broken q (kind gs gs)) same ∙ ap (λ p. first_broken p (kind leaders leaders)) point)) ok

@@ -6,10 +6,11 @@ use Rattle.std.specs.Prelude.{int_lt}
 use Rattle.std.proofs.lemmas.Bool.{false≢true}
 use Rattle.clu_partition.specs.Sums.{pair_total, cross_total}
 use Rattle.clu_partition.specs.Pairs.{Pairs, are_pair, weight_of}
-use Rattle.clu_cuts.specs.Shares.{AreShares}
+use Rattle.clu_cuts.specs.Shares.{AreShares, IsMost, IsTableOf}
 use Rattle.std.proofs.Common.{slice_index}
 use Rattle.clu_state.specs.State.{State}
 use Rattle.clu_cuts.specs.declared.point.Point.{Point}
+use Rattle.clu_cuts.specs.declared.shares.Shares.{Shares}
 use Rattle.clu_cuts.specs.Point.{IsPoint, listed, share}
 use Rattle.clu_cuts.specs.Stars.{breaks, star}
 
@@ -79,6 +80,16 @@ claw_holds s p a b c d most is l h =
 
 -- ---- the table's numbers
 -- the share at two places of the table
-pub cell : (groups : List ℕ) (p : Point) (table : Pairs) (i j : ℕ) (x : ℤ) → AreShares groups p table → i < length groups → j < length groups
+pub cell : (groups : List ℕ) (p : Point) (table : Pairs) (i j : ℕ) (x : ℤ) → IsTableOf groups p table → i < length groups → j < length groups
     → x ≡ weight_of table i j → x ≡ share p (slice_index groups i) (slice_index groups j)
 cell groups p table i j x are li lj e = e ∙ are.agrees i j li lj
+
+-- no share is more than a whole
+pub whole_is_most : (shares : Shares) (a : ℕ) (most : ℤ) → AreShares shares → most ≡ shares.point.now.den → IsMost shares a most
+whole_is_most shares a most are e =
+    let h = are.some.1.positive in
+    record {
+      least = omega (arith, ints, e, h);
+      most = omega (arith, ints, e);
+      greatest = λ v. let r = (share_range are.some.0 shares.point.now (slice_index shares.groups.now a) v are.some.1).1 in omega (arith, ints, e, r);
+    }

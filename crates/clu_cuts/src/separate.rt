@@ -10,7 +10,7 @@ ghost use Rattle.clu_cuts.specs.Stars.{claws, first_broken, triangles};
 
 use crate::claws::all_claws;
 use crate::point::{Cut, Point};
-use crate::shares::table_of;
+use crate::shares::Shares;
 use crate::triangles::all_triangles;
 use clu_partition::Seq;
 use clu_state::Situation;
@@ -32,9 +32,8 @@ pub fn violated_triangles<S: Situation>(
         → AreGroups (S.state state.now) (a ∷ b ∷ c ∷ []) → TwoSetAt point.now (a ∷ []) (b ∷ c ∷ [])) }
 {
     let leaders = state.leaders(alloc)?;
-    let groups = leaders.as_slice();
-    let shares = table_of(alloc, state, groups, point)?;
-    all_triangles(alloc, groups, point, &shares)
+    let shares = Shares::new(alloc, state, leaders.as_slice(), point)?;
+    all_triangles(alloc, &shares)
 }
 
 /// The first 50 claws that the point violates, by the centre and then the others, rising; none
@@ -54,7 +53,6 @@ pub fn violated_claws<S: Situation>(
         → TwoSetAt point.now (a ∷ []) (b ∷ c ∷ d ∷ [])) }
 {
     let leaders = state.leaders(alloc)?;
-    let groups = leaders.as_slice();
-    let shares = table_of(alloc, state, groups, point)?;
-    all_claws(alloc, groups, point, &shares)
+    let shares = Shares::new(alloc, state, leaders.as_slice(), point)?;
+    all_claws(alloc, &shares)
 }

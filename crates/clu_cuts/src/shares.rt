@@ -5,17 +5,65 @@
 //! one group.
 
 ghost use Rattle.std.specs.Prelude.{◌≡◌, ◌<◌, ◌≤◌, ◌≤ℤ◌, ◌^◌, ℕ, pos, length, slice_index, Contains, IfOk};
-ghost use Rattle.clu_state.specs.State.{IsState, State, group_leaders};
+ghost use Rattle.clu_state.specs.State.{IsState, group_leaders};
 ghost use Rattle.clu_cuts.specs.Point.{IsPoint, share};
-ghost use Rattle.clu_cuts.specs.Shares.{AreShares};
+ghost use Rattle.clu_cuts.specs.Shares.{AreShares, IsTableOf};
 
 use crate::point::Point;
 use clu_partition::{Residual, Vertex};
 use clu_state::Situation;
 use std::alloc::{AllocError, Global};
 
+/// The shares that a point gives each two groups of a state, by the groups' places.
+#[derive(Drop)]
+pub(crate) struct Shares<'a> {
+    /// The groups by their least vertices, rising.
+    pub(crate) groups: &'a [Vertex],
+    /// The point.
+    pub(crate) point: &'a Point,
+    table: Residual,
+}
+
+impl<'a> Shares<'a> {
+    /// The shares of a state's groups.
+    pub(crate) fn new<S: Situation>(
+        alloc: Global,
+        state: &S,
+        groups: &'a [Vertex],
+        point: &'a Point,
+    ) -> Result<Shares<'a>, AllocError>
+        requires valid { IsState (S.state state.now) }
+        requires leaders { groups.now ≡ group_leaders (S.state state.now) }
+        requires point { IsPoint (S.state state.now) point.now }
+        requires common { point.now.den ≤ℤ pos (2 ^ 100) }
+        ensures shares { IfOk result (λ shares. AreShares shares) }
+        ensures groups { IfOk result (λ shares. shares.groups.now ≡ groups.now) }
+        ensures point { IfOk result (λ shares. shares.point.now ≡ point.now) }
+    {
+        let table = table_of(alloc, state, groups, point)?;
+        Ok(Shares {
+            groups,
+            point,
+            table,
+        })
+    }
+
+    /// The share of the groups at two places.
+    pub(crate) fn at(&self, i: usize, j: usize) -> i128
+        requires i { i < length self.now.groups.now }
+        requires j { j < length self.now.groups.now }
+        requires shares { AreShares self.now }
+        ensures value { result ≡ share self.now.point.now (slice_index self.now.groups.now i) (slice_index self.now.groups.now j) }
+        ensures least { pos 0 ≤ℤ result }
+        ensures most { result ≤ℤ self.now.point.now.den }
+    {
+        let _groups = self.groups;
+        self.table.get(i, j)
+    }
+}
+
 /// The table of shares by the places of the groups.
-pub(crate) fn table_of<S: Situation>(
+fn table_of<S: Situation>(
     alloc: Global,
     _state: &S,
     groups: &[Vertex],
@@ -25,7 +73,7 @@ pub(crate) fn table_of<S: Situation>(
     requires leaders { groups.now ≡ group_leaders (S.state _state.now) }
     requires point { IsPoint (S.state _state.now) point.now }
     requires common { point.now.den ≤ℤ pos (2 ^ 100) }
-    ensures { IfOk result (λ table. AreShares groups.now point.now table) }
+    ensures { IfOk result (λ table. IsTableOf groups.now point.now table) }
 {
     let mut table = Residual::new(alloc, groups.len() as u32)?;
     let pairs = point.pairs.as_slice();
@@ -36,26 +84,6 @@ pub(crate) fn table_of<S: Situation>(
         table.set(i, j, x[k]);
     }
     Ok(table)
-}
-
-/// The share of the groups at two places.
-pub(crate) fn share_at(
-    groups: &[Vertex],
-    _point: &Point,
-    shares: &Residual,
-    i: usize,
-    j: usize,
-) -> i128
-    requires i { i < length groups.now }
-    requires j { j < length groups.now }
-    requires some { (s : State) × IsPoint s _point.now }
-    requires shares { AreShares groups.now _point.now shares.now }
-    ensures value { result ≡ share _point.now (slice_index groups.now i) (slice_index groups.now j) }
-    ensures least { pos 0 ≤ℤ result }
-    ensures most { result ≤ℤ _point.now.den }
-{
-    let _groups = groups;
-    shares.get(i, j)
 }
 
 /// The place of a group's least vertex in their list, which rises.

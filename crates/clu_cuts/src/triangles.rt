@@ -5,35 +5,26 @@
 //! until the limit is reached. The inequalities are those of Grötschel and Wakabayashi (1989).
 
 ghost use Rattle.std.specs.Prelude.{◌≡◌, ◌+◌, ◌++◌, ◌<◌, ◌≤◌, ◌≤ℤ◌, ◌^◌, pos, take, drop, length, IfOk, OnOk, slice_index, [], ◌∷◌};
-ghost use Rattle.clu_state.specs.State.{State};
-ghost use Rattle.clu_cuts.specs.Point.{IsPoint};
 ghost use Rattle.clu_cuts.specs.Shares.{AreShares};
 ghost use Rattle.clu_cuts.specs.Stars.{breaks, broken, first_broken, pairs_with, star, triangles_at, with_two};
 
-use crate::point::{Cut, Point};
-use crate::shares::share_at;
+use crate::point::Cut;
+use crate::shares::Shares;
 use crate::star::{MOST, is_past, push_if};
-use clu_partition::{Residual, Seq, Vertex};
+use clu_partition::Seq;
 use std::alloc::{AllocError, Global};
 
 /// The first violated triangles.
-pub(crate) fn all_triangles(
-    alloc: Global,
-    groups: &[Vertex],
-    point: &Point,
-    shares: &Residual,
-) -> Result<Seq<Cut>, AllocError>
-    requires common { point.now.den ≤ℤ pos (2 ^ 100) }
-    requires some { (s : State) × IsPoint s point.now }
-    requires shares { AreShares groups.now point.now shares.now }
-    ensures { IfOk result (λ cuts. cuts ≡ first_broken point.now (triangles_at groups.now groups.now)) }
+pub(crate) fn all_triangles(alloc: Global, shares: &Shares) -> Result<Seq<Cut>, AllocError>
+    requires shares { AreShares shares.now }
+    ensures { IfOk result (λ cuts. cuts ≡ first_broken shares.now.point.now (triangles_at shares.now.groups.now shares.now.groups.now)) }
 {
     let mut cuts = Seq::new(alloc);
-    for a in 0..groups.len() {
+    for a in 0..shares.groups.len() {
         if cuts.len() == MOST {
             return Ok(cuts);
         }
-        push_seconds(alloc, groups, point, shares, a, &mut cuts)?;
+        push_seconds(alloc, shares, a, &mut cuts)?;
     }
     Ok(cuts)
 }
@@ -41,22 +32,18 @@ pub(crate) fn all_triangles(
 /// Appends the violated triangles with the centre at a, up to the limit.
 fn push_seconds(
     alloc: Global,
-    groups: &[Vertex],
-    point: &Point,
-    shares: &Residual,
+    shares: &Shares,
     a: usize,
     cuts: &mut Seq<Cut>,
 ) -> Result<(), AllocError>
-    requires a { a < length groups.now }
-    requires common { point.now.den ≤ℤ pos (2 ^ 100) }
-    requires some { (s : State) × IsPoint s point.now }
-    requires shares { AreShares groups.now point.now shares.now }
+    requires a { a < length shares.now.groups.now }
+    requires shares { AreShares shares.now }
     requires room { length cuts.old ≤ 50 }
     ensures { OnOk result (cuts.new ≡ take 50 (cuts.old
-        ++ broken point.now (with_two (slice_index groups.now a) groups.now))) }
+        ++ broken shares.now.point.now (with_two (slice_index shares.now.groups.now a) shares.now.groups.now))) }
 {
-    for b in 0..groups.len() {
-        push_thirds(alloc, groups, point, shares, a, b, cuts)?;
+    for b in 0..shares.groups.len() {
+        push_thirds(alloc, shares, a, b, cuts)?;
     }
     Ok(())
 }
@@ -64,53 +51,46 @@ fn push_seconds(
 /// Appends the violated triangles of the groups at a and b with each later one, up to the limit.
 fn push_thirds(
     alloc: Global,
-    groups: &[Vertex],
-    point: &Point,
-    shares: &Residual,
+    shares: &Shares,
     a: usize,
     b: usize,
     cuts: &mut Seq<Cut>,
 ) -> Result<(), AllocError>
-    requires a { a < length groups.now }
-    requires b { b < length groups.now }
-    requires common { point.now.den ≤ℤ pos (2 ^ 100) }
-    requires some { (s : State) × IsPoint s point.now }
-    requires shares { AreShares groups.now point.now shares.now }
+    requires a { a < length shares.now.groups.now }
+    requires b { b < length shares.now.groups.now }
+    requires shares { AreShares shares.now }
     requires room { length cuts.old ≤ 50 }
     ensures { OnOk result (cuts.new ≡ take 50 (cuts.old
-        ++ broken point.now (pairs_with (slice_index groups.now a) (slice_index groups.now b)
-        (drop (b + 1) groups.now)))) }
+        ++ broken shares.now.point.now (pairs_with (slice_index shares.now.groups.now a) (slice_index shares.now.groups.now b)
+        (drop (b + 1) shares.now.groups.now)))) }
 {
-    for c in b + 1..groups.len() {
+    for c in b + 1..shares.groups.len() {
         if cuts.len() == MOST {
             return Ok(());
         }
-        let violated = is_violated(groups, point, shares, a, b, c);
-        push_if(alloc, violated, groups[a], &[groups[b], groups[c]], cuts)?;
+        let violated = is_violated(shares, a, b, c);
+        push_if(
+            alloc,
+            violated,
+            shares.groups[a],
+            &[shares.groups[b], shares.groups[c]],
+            cuts,
+        )?;
     }
     Ok(())
 }
 
 /// Whether the triangle with the centre at a and the others at b and c is violated.
-fn is_violated(
-    groups: &[Vertex],
-    point: &Point,
-    shares: &Residual,
-    a: usize,
-    b: usize,
-    c: usize,
-) -> bool
-    requires a { a < length groups.now }
-    requires b { b < length groups.now }
-    requires c { c < length groups.now }
-    requires common { point.now.den ≤ℤ pos (2 ^ 100) }
-    requires some { (s : State) × IsPoint s point.now }
-    requires shares { AreShares groups.now point.now shares.now }
-    ensures { result ≡ breaks point.now (star (slice_index groups.now a)
-        (slice_index groups.now b ∷ slice_index groups.now c ∷ [])) }
+fn is_violated(shares: &Shares, a: usize, b: usize, c: usize) -> bool
+    requires a { a < length shares.now.groups.now }
+    requires b { b < length shares.now.groups.now }
+    requires c { c < length shares.now.groups.now }
+    requires shares { AreShares shares.now }
+    ensures { result ≡ breaks shares.now.point.now (star (slice_index shares.now.groups.now a)
+        (slice_index shares.now.groups.now b ∷ slice_index shares.now.groups.now c ∷ [])) }
 {
-    let ab = share_at(groups, point, shares, a, b);
-    let ac = share_at(groups, point, shares, a, c);
-    let bc = share_at(groups, point, shares, b, c);
-    is_past(ab + ac, bc, point.den)
+    let ab = shares.at(a, b);
+    let ac = shares.at(a, c);
+    let bc = shares.at(b, c);
+    is_past(ab + ac, bc, shares.point.den)
 }
