@@ -1,4 +1,4 @@
-ghost use Rattle.std.specs.Prelude.{◌≡◌, ◌↔◌, ◌≤◌, ◌^◌, ℕ, ◌≤ℤ◌, IfOk, IfSome, unsigned_abs};
+ghost use Rattle.std.specs.Prelude.{◌≡◌, ◌↔◌, ◌≤◌, ◌^◌, ℕ, ◌≤ℤ◌, IfOk, IfSome, OnErr, unsigned_abs};
 ghost use Rattle.clu_partition.specs.Pairs.{weight_of};
 ghost use Rattle.clu_partition.specs.Values.{value_on};
 ghost use Rattle.clu_state.specs.State.{InClass, fixed_value};
@@ -63,7 +63,8 @@ fn bound_of<S: Situation>(state: &S, leaf: &Leaf, scratch: &mut Residual) -> i12
 }
 
 /// Packs triangles, and names the free pair of greatest absolute weight between its groups, ties by
-/// the least pair. `scratch` has room for the problem's vertices, and what it holds doesn't matter.
+/// the least pair. `scratch` has room for the problem's vertices, and what it holds doesn't matter; it
+/// holds it still where there is no memory.
 pub fn bound_node<S: Situation>(
     alloc: Global,
     state: &S,
@@ -84,6 +85,7 @@ pub fn bound_node<S: Situation>(
     ensures settled { IfOk result (λ node. node.pair ≡ None
         → node.bound ≡ fixed_value (S.state state.now)) }
     ensures room { scratch.new.n ≡ scratch.old.n }
+    ensures kept { OnErr result (scratch.new ≡ scratch.old) }
 {
     let leaf = pack(alloc, state)?;
     let pairs = state.free_pairs(alloc)?;

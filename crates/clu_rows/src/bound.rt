@@ -1,4 +1,4 @@
-ghost use Rattle.std.specs.Prelude.{◌≡◌, ◌≢◌, ◌<◌, ◌≤◌, ◌^◌, ℕ, ℤ, pos, ◌≤ℤ◌, All, Contains, IfOk, IsErrOf, unsigned_abs};
+ghost use Rattle.std.specs.Prelude.{◌≡◌, ◌≢◌, ◌<◌, ◌≤◌, ◌^◌, ℕ, ℤ, pos, ◌≤ℤ◌, All, Contains, IfOk, IsErrOf, OnErr, unsigned_abs};
 ghost use Rattle.clu_partition.specs.Sums.{positive};
 ghost use Rattle.clu_partition.specs.Values.{value_on};
 ghost use Rattle.clu_partition.specs.Pairs.{weight_of};
@@ -119,7 +119,8 @@ fn sound_bound<S: Situation>(state: &S, leaf: &Leaf, scratch: &mut Residual) -> 
 }
 
 /// The bound that a leaf proves: no partition of the state's class has a greater value. `scratch`
-/// has room for the problem's vertices, and what it holds doesn't matter.
+/// has room for the problem's vertices, and what it holds doesn't matter; after a fault it holds it
+/// still.
 ///
 /// The bound is the value inside the groups and, over the denominator and rounded down, the
 /// multipliers times the rows' right sides and what these leave uncovered of the free pairs.
@@ -139,6 +140,7 @@ pub fn leaf_bound<S: Situation>(
     ensures row_fault { (row : ℕ) → IsErrOf result (LeafFault.Row row)
         → IsDenominator leaf.now.den × IsFirstFault (S.state state.now) leaf.now.rows row }
     ensures room { scratch.new.n ≡ scratch.old.n }
+    ensures kept { OnErr result (scratch.new ≡ scratch.old) }
 {
     if leaf.den == 0 || leaf.den > 1 << 32 {
         return Err(LeafFault::Den);
