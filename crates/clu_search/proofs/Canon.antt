@@ -125,13 +125,13 @@ begun label (suc next) labels lists l m = ⊎_elim
     (cases_eq label next)
 
 -- a label in use, before a list
-put_old : (label n next : ℕ) (labels : List ℕ) → label < next → Among labels (label_lists n next) →
+pub put_old : (label n next : ℕ) (labels : List ℕ) → label < next → Among labels (label_lists n next) →
     Among (label ∷ labels) (label_lists (suc n) next)
 put_old label n next labels l m = among_left (label ∷ labels) (begun_below next (label_lists n next))
     (map (λ ls. next ∷ ls) (label_lists n (suc next))) (begun label next labels (label_lists n next) l m)
 
 -- the next new label, before a list
-put_new : (n next : ℕ) (labels : List ℕ) → Among labels (label_lists n (suc next)) → Among (next ∷ labels) (label_lists (suc n) next)
+pub put_new : (n next : ℕ) (labels : List ℕ) → Among labels (label_lists n (suc next)) → Among (next ∷ labels) (label_lists (suc n) next)
 put_new n next labels m = among_right (next ∷ labels) (begun_below next (label_lists n next))
     (map (λ ls. next ∷ ls) (label_lists n (suc next))) (among_mapped (λ ls. next ∷ ls) labels (label_lists n (suc next)) m)
 
@@ -167,11 +167,11 @@ place_tells (x ∷ xs) a b m e = ⊎_elim
     (cases_eq x b))
     (cases_eq x a)
 
-first_or : List ℕ → ℕ
+unfoldable pub first_or : List ℕ → ℕ
 first_or [] = zero
 first_or (x ∷ xs) = x
 
-rest_of : List ℕ → List ℕ
+unfoldable pub rest_of : List ℕ → List ℕ
 rest_of [] = []
 rest_of (x ∷ xs) = xs
 

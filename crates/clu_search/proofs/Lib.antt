@@ -5,6 +5,7 @@ pub mod Counting
 pub mod Incumbents
 pub mod Own
 pub mod PartsCounted
+pub mod Permitted
 pub mod Pigeon
 pub mod Products
 pub mod Searching

@@ -1,8 +1,8 @@
 -- The partitions that closed rules permit, as a list, and how many they are.
-use Rattle.std.specs.Prelude.{ℕ, List, [], ◌∷◌, ◌++◌, Bool, not, ◌&&◌, ◌==◌, length, map, slice_index, filter, zero, suc}
+use Rattle.std.specs.Prelude.{◌≢◌, ℕ, List, [], ◌∷◌, ◌++◌, Bool, not, ◌&&◌, ◌==◌, All, AllPairs, Contains, length, map, slice_index, filter, zero, suc}
 use Rattle.std.specs.List.{list_all}
-use Rattle.clu_partition.specs.Partition.{below}
-use Rattle.clu_partition.specs.Closed.{Closed}
+use Rattle.clu_partition.specs.Partition.{below, IsPartition}
+use Rattle.clu_partition.specs.Closed.{Closed, IsPermitted}
 
 -- the lists that begin with a label below `next`, each before each of the lists
 abbrev pub begun_below : ℕ → List (List ℕ) → List (List ℕ)
@@ -27,3 +27,9 @@ permitted c = filter (λ labels. permits c (slice_index labels)) (label_lists (l
 -- how many there are
 abbrev pub count : Closed → ℕ
 count c = length (permitted c)
+
+-- the list has each partition of the vertices that the rules permit, once, and nothing else
+pub record HasEachPermitted (c : Closed) (lists : List (List ℕ)) : Type 0 where
+  pub each : (labels : List ℕ) → IsPartition (length c.group) labels → IsPermitted c (slice_index labels) → Contains lists labels
+  pub only : All (λ labels. IsPartition (length c.group) labels × IsPermitted c (slice_index labels)) lists
+  pub once : AllPairs (λ labels others. labels ≢ others) lists

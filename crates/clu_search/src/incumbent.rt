@@ -73,6 +73,7 @@ impl Incumbent {
             (IsIncumbent (S.state state.now).pairs (S.state state.now).start self.new) }
         ensures risen { OnOk result (self.old.value ≤ℤ self.new.value) }
         ensures tried { OnOk result (fixed_value (S.state state.now) ≤ℤ self.new.value) }
+        ensures kept { fixed_value (S.state state.now) ≤ℤ self.old.value → self.new ≡ self.old }
     {
         let value = state.fixed_value();
         if value > self.value {

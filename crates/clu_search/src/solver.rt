@@ -6,7 +6,7 @@ ghost use Rattle.clu_partition.specs.Values.{value_on};
 ghost use Rattle.clu_objective.specs.Problem.{printed, IsBetterOrEqual};
 ghost use Rattle.clu_cert.specs.Fits.{Fits};
 ghost use Rattle.clu_cert.specs.Valid.{IsValid};
-ghost use Rattle.clu_search.specs.Count.{count};
+ghost use Rattle.clu_search.specs.Count.{HasEachPermitted, count, permitted};
 ghost use Rattle.clu_search.specs.Outcome.{StatesItsBound, branchings_of};
 
 use crate::search::Search;
@@ -50,6 +50,7 @@ pub fn solve(
     ensures branchings { IfOk result (λ o. o.branchings ≡ branchings_of o.certificate) }
     ensures within { IfOk result (λ o. o.branchings ≤ limits.now.branchings) }
     ensures counted { IfOk result (λ o. o.branchings < count start.now) }
+    ensures listed { IfOk result (λ _. HasEachPermitted start.now (permitted start.now)) }
     ensures optimal { IfOk result (λ o. (o.end ≡ End.Optimal)
         ↔ (o.certificate.value ≡ o.certificate.bound)) }
     ensures gap { IfOk result (λ o. (o.end ≡ End.Branchings)

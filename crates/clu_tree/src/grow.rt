@@ -27,6 +27,17 @@ fn attach(
 {
     nodes.reserve(2)?;
     let later = nodes[key].next;
+    // of leaves with one bound the least key is taken first, and the pair together is nearer a partition
+    let first = nodes.insert_reserved(Node {
+        steps: together.steps,
+        bound: together.bound,
+        cut: None,
+        next: later,
+        origin: Some(Origin {
+            parent: key,
+            decision: Decision::Together(u, v),
+        }),
+    });
     let second = nodes.insert_reserved(Node {
         steps: apart.steps,
         bound: apart.bound,
@@ -37,16 +48,7 @@ fn attach(
             decision: Decision::Apart(u, v),
         }),
     });
-    let first = nodes.insert_reserved(Node {
-        steps: together.steps,
-        bound: together.bound,
-        cut: None,
-        next: second,
-        origin: Some(Origin {
-            parent: key,
-            decision: Decision::Together(u, v),
-        }),
-    });
+    nodes[first].next = second;
     let node = &mut nodes[key];
     node.cut = Some((u, v));
     node.next = first;

@@ -42,7 +42,7 @@ const LONGER_PATH: Weights = &[
 
 // Three vertices: the triangle at 1 takes both edges and allows one of them, so the bound is 1. With 0
 // and 1 together the edge inside is worth 1 and what leads to 2 adds up to 0; with them apart 1-2 is
-// left. Both leaves have 1, and the one that was made first has the lesser key. Four vertices: 2-3 is
+// left. Both leaves have 1, and the one with the pair together is taken. Four vertices: 2-3 is
 // worth 1 more, and with 0 and 1 together nothing of it is lost, but with them apart the triangle at 2
 // allows one of its edges. So the leaf with them together is split, on 0 and 3, with -2 between their
 // groups: together the block of 0, 1 and 3 has -1, and 1 leads to 2; apart the bound stays 2.
@@ -65,7 +65,7 @@ const CASES: [Case; 4] = [
         splits: 1,
         upper: 1,
         items: &[Some((0, 1)), None, None],
-        way: &[(0, 1, false)],
+        way: &[(0, 1, true)],
     },
     Case {
         name: "two splits",
