@@ -1,5 +1,5 @@
 -- Which certificates are valid for a problem and its rules.
-use Rattle.std.specs.Prelude.{◌≡◌, ◌⊎◌, ℕ, ◌<◌, ◌^◌, ℤ, pos, ◌≤ℤ◌, List, [], ◌∷◌, ◌++◌, Bool, true, false, ◌==◌, ◌&&◌, ◌||◌, All, Contains, length, slice_index, map, filter}
+use Rattle.std.specs.Prelude.{◌≡◌, ℕ, ◌<◌, ◌^◌, ℤ, pos, List, [], ◌∷◌, true, ◌&&◌, length, slice_index, map, filter}
 use Rattle.std.specs.Int.{int_min}
 use Rattle.clu_partition.specs.Sums.{total}
 use Rattle.clu_partition.specs.Pairs.{weight_of}
@@ -7,9 +7,9 @@ use Rattle.clu_partition.specs.Partition.{below, IsPartition}
 use Rattle.clu_partition.specs.Values.{value_on}
 use Rattle.clu_partition.specs.Closed.{Closed, joins}
 use Rattle.clu_objective.specs.Problem.{Posed, printed, IsBetterOrEqual}
-use Rattle.clu_state.specs.State.{State, undecided, decided, leader, are_apart, group_weight}
+use Rattle.clu_state.specs.State.{State, undecided}
 use Rattle.clu_state.specs.declared.decision.Decision.{Decision}
-use Rattle.clu_reduce.specs.Reduction.{Holds, decision_of}
+use Rattle.clu_reduce.specs.Reduction.{decision_of}
 pub use Rattle.clu_reduce.specs.Steps.{AllHold, stepped}
 pub use Rattle.clu_reduce.specs.Parts.{Rises, Lacks, IsPart, AllParts, Cover, is_in}
 use Rattle.clu_reduce.specs.declared.step.Step.{Step}

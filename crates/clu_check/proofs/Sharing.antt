@@ -1,15 +1,13 @@
 -- The root steps of each part.
-use Rattle.std.proofs.Common.{◌≡◌, ◌≢◌, ℕ, ◌+◌, ◌-◌, ◌<◌, ◌≤◌, ⊎_elim, List, [], ◌∷◌, ◌++◌, length, take, get_or, slice_index, Bool, true, false, cond, ◌==◌, ◌&&◌, map, filter, All, Contains, refl, sym, ap, ◌∙◌, subst, arith, if◌then◌else◌, append-nil, replicate}
-use Rattle.std.proofs.Math.ListN.{set}
-use Rattle.std.proofs.lemmas.Bool.{cases_eq, eq-eqb, eqb-true, ne_eqb}
+use Rattle.std.proofs.Common.{◌≡◌, ◌≢◌, ℕ, ◌+◌, ◌-◌, ◌<◌, ◌≤◌, List, [], ◌∷◌, ◌++◌, length, take, get_or, slice_index, Bool, true, false, cond, ◌==◌, ◌&&◌, map, filter, All, Contains, refl, sym, ap, ◌∙◌, subst, arith, if◌then◌else◌, replicate}
+use Rattle.std.proofs.lemmas.Bool.{eq-eqb, ne_eqb}
 use Rattle.std.proofs.lemmas.List.{take_more, take_all, length-map, get_or-map, get_or_default, same_lists, get_or-replicate, length-replicate}
-use Rattle.std.proofs.lemmas.List.Elements.{All-nil, All-cons, All-contains, Contains-get_or, filter-append}
+use Rattle.std.proofs.lemmas.List.Elements.{All-nil, All-cons, filter-append}
 use Rattle.clu_partition.specs.Partition.{below}
 use Rattle.clu_partition.specs.Closed.{Closed}
 use Rattle.clu_objective.specs.Problem.{Posed}
 use Rattle.clu_state.specs.State.{State, decided}
-use Rattle.clu_state.specs.declared.decision.Decision.{Decision}
-use Rattle.clu_reduce.specs.Reduction.{Holds, decision_of}
+use Rattle.clu_reduce.specs.Reduction.{decision_of}
 use Rattle.clu_reduce.specs.declared.step.Step.{Step}
 use Rattle.clu_reduce.proofs.PartOf.{place_of, place_is}
 use Rattle.clu_cert.specs.Valid.{AllParts, AllHold, whole, is_in, decisions_within}

@@ -14,7 +14,7 @@ use Rattle.clu_cert.specs.declared.certificate.Certificate.{Certificate}
 use Rattle.clu_cert.specs.declared.certificate.Item.{Item}
 use Rattle.clu_cert.specs.declared.certificate.Proof.{Proof}
 use Rattle.clu_cert.specs.Upper.{HasUpper, IsBadStep, IsBadLeaf}
-use Rattle.clu_cert.specs.Valid.{whole, part_state, decisions_within, HaveUppers}
+use Rattle.clu_cert.specs.Valid.{part_state, decisions_within, HaveUppers}
 use Rattle.clu_cert.proofs.States.{IsTask}
 use Rattle.clu_cert.proofs.Uppers.{HasRoot, HasProofs}
 use Rattle.clu_cert.proofs.ValidLaws.{cut_size}

@@ -1,12 +1,12 @@
 -- Which condition of a valid certificate fails first, and where.
-use Rattle.std.specs.Prelude.{◌≡◌, ◌≢◌, ◌⊎◌, ℕ, ◌+◌, ◌-◌, ◌<◌, ◌^◌, min, List, [], ◌∷◌, ◌++◌, length, map, sum_by}
+use Rattle.std.specs.Prelude.{◌≡◌, ◌≢◌, ◌⊎◌, ℕ, ◌+◌, ◌-◌, ◌<◌, ◌^◌, min, List, [], ◌∷◌, ◌++◌, length, sum_by}
 use Rattle.clu_partition.specs.Closed.{Closed, Precedes}
 use Rattle.clu_partition.specs.Partition.{IsPartition}
 use Rattle.clu_objective.specs.Problem.{Posed, IsBetterOrEqual}
 use Rattle.clu_state.specs.State.{State}
 use Rattle.clu_reduce.specs.Reduction.{Holds}
 use Rattle.clu_reduce.specs.declared.step.Step.{Step}
-use Rattle.clu_cert.specs.Upper.{HasUpper, IsBadStep, IsBadLeaf, FailsAt, EndsEarly, GoesOn}
+use Rattle.clu_cert.specs.Upper.{IsBadStep, IsBadLeaf, FailsAt, EndsEarly, GoesOn}
 use Rattle.clu_cert.specs.Valid.{HasShape, Obeys, ObeyRules, printed_value, whole, AllHold, stepped, IsPart, AllParts, Cover, parts_of, part_state, HaveUppers, proved_bound}
 use Rattle.clu_cert.specs.declared.certificate.Certificate.{Certificate}
 use Rattle.clu_cert.specs.declared.certificate.Item.{Item}
