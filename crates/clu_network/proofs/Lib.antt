@@ -7,3 +7,4 @@ pub mod Scaled
 pub mod Whole
 pub mod Exclusive
 pub mod OneNetwork
+pub mod Told

@@ -2,14 +2,16 @@
 //!
 //! The crates above use this: `read_network` answers the one network of a text exactly where the
 //! bytes are one of at most 1,000 names, and else the first line that fails with its cause; a
-//! `Network` is its names, its places and its list of lines. The definitions stand in
-//! `specs/Network.antt`, `specs/NameList.antt`, `specs/Entries.antt`, `specs/Reading.antt` and
-//! `specs/Scaling.antt`.
+//! `Network` is its names, its places and its list of lines, and names its vertices by the texts of
+//! the file. The definitions stand in `specs/Network.antt`, `specs/NameList.antt`,
+//! `specs/Entries.antt`, `specs/Reading.antt`, `specs/Scaling.antt`, `specs/Naming.antt` and
+//! `specs/Telling.antt`.
 #![tactic(auto)]
 
 mod entry;
 mod error;
 mod names;
+mod naming;
 mod network;
 mod reader;
 #[cfg(test)]

@@ -1,14 +1,14 @@
 //! The names of vertices, numbered as they first appear. An `IndexSet` keeps their order and finds one
 //! in constant time on average; a new name alone is copied.
 
-ghost use Rattle.std.specs.Prelude.{◌≡◌, ◌<◌, ◌≤◌, ◌++◌, [], ◌∷◌, false, map, length, position, slice_get, Some, is_some, IfOk, OnOk, OnErr, MatchOption};
+ghost use Rattle.std.specs.Prelude.{◌≡◌, ◌<◌, ◌≤◌, ◌++◌, [], ◌∷◌, false, map, length, position, slice_get, Some, is_some, OnOk, OnErr};
 ghost use Rattle.std.specs.Str.{bytes_eq};
 ghost use Rattle.std.specs.List.{list_any, IsDistinct};
-ghost use Rattle.clu_network.specs.NameList.{with_name, number_of};
 
 use indexmap::IndexSet;
 use std::alloc::{AllocError, Global};
 use std::marker::Model;
+use std::str::from_utf8;
 
 /// The names of a network's vertices in the order of their first appearance.
 #[derive(Debug, Drop)]
@@ -48,19 +48,35 @@ impl NameTable {
         self.names.len() as u32
     }
 
-    /// The number of a name.
-    pub(crate) fn find(&self, name: &str) -> Option<u32>
+    /// The number of the name of these bytes. Bytes that are no text are no name.
+    pub(crate) fn find(&self, name: &[u8]) -> Option<u32>
         ensures number { result ≡ position (bytes_eq name.now) self.now }
         ensures found { is_some result ≡ list_any (bytes_eq name.now) self.now }
+        ensures small { length self.now ≤ 1000 }
     {
-        match self.names.get_index_of(name) {
+        let names = &self.names;
+        let Ok(text) = from_utf8(name) else {
+            return None;
+        };
+        match names.get_index_of(text) {
             Some(index) => Some(index as u32),
             None => None,
         }
     }
 
+    /// The name of a number.
+    pub(crate) fn name(&self, number: u32) -> &str
+        requires { number < length self.now }
+        ensures { slice_get self.now number ≡ Some result.now }
+    {
+        match self.names.get_index(number as usize) {
+            Some(name) => name.as_str(),
+            None => unreachable!(),
+        }
+    }
+
     /// Puts a name behind the others. After an error the names are as they were.
-    fn add(&mut self, alloc: Global, name: &str) -> Result<(), AllocError>
+    pub(crate) fn add(&mut self, alloc: Global, name: &str) -> Result<(), AllocError>
         requires absent { list_any (bytes_eq name.now) self.old ≡ false }
         requires room { length self.old < 1000 }
         ensures ok { OnOk result (self.new ≡ self.old ++ name.now ∷ []) }
@@ -69,21 +85,5 @@ impl NameTable {
         let owned = String::from_str(alloc, name)?;
         self.names.insert(owned)?;
         Ok(())
-    }
-
-    /// The number of a name, which is put behind the others where it is new. After an error the
-    /// names are as they were.
-    pub(crate) fn number(&mut self, alloc: Global, name: &str) -> Result<u32, AllocError>
-        requires room { list_any (bytes_eq name.now) self.old ≡ false → length self.old < 1000 }
-        ensures names { OnOk result (self.new ≡ with_name self.old name.now) }
-        ensures number { IfOk result (λ v. v ≡ number_of self.old name.now) }
-        ensures err { OnErr result (self.new ≡ self.old) }
-    {
-        if let Some(number) = self.find(name) {
-            return Ok(number);
-        }
-        let number = self.len();
-        self.add(alloc, name)?;
-        Ok(number)
     }
 }

@@ -4,6 +4,7 @@
 ghost use Rattle.std.specs.List.{IsDistinct};
 ghost use Rattle.std.specs.Str.{bytes_eq};
 ghost use Rattle.std.specs.Prelude.{◌≡◌, ◌≤◌, ◌<◌, ◌^◌, All, length, unsigned_abs};
+ghost use Rattle.clu_network.specs.Naming.{names_of};
 
 use crate::names::NameTable;
 use clu_partition::Vertex;
@@ -68,8 +69,16 @@ impl Network {
         ensures names { result ≡ length self.now.names }
         ensures apart { IsDistinct bytes_eq self.now.names }
         ensures small { result ≤ 1000 }
+        ensures named { names_of self.now ≡ self.now.names }
     {
         self.n
+    }
+
+    /// The table of the names.
+    pub(crate) fn table(&self) -> &NameTable
+        ensures names { result.now ≡ names_of self.now }
+    {
+        &self.names
     }
 
     /// The number of decimal places of the weights: ten to this power units make one, at most 9.

@@ -1,6 +1,6 @@
 //! The reader of edge lists: one pass over the lines gives the names their numbers and leaves joints,
 //! whose weights are then brought to the largest number of decimal places. A line is cut at ASCII
-//! blanks, so one check that it is UTF-8 serves for all its names.
+//! blanks, so its names are texts where it is one, and a known name is looked up once.
 
 ghost use Rattle.std.specs.Prelude.{◌≡◌, ◌↔◌, [], ◌<◌, ◌≤◌, ◌*◌, ◌^◌, ℕ, All, map, pos, unsigned_abs, IfOk, IfErr, IfSome, IsTrue, OnOk, length};
 ghost use Rattle.std.specs.Str.{IsUtf8};
@@ -8,9 +8,10 @@ ghost use Rattle.std.specs.List.{enumerate_from};
 ghost use Rattle.clu_text.specs.Lines.{fields_of, lines_of};
 ghost use Rattle.clu_network.specs.Reading.{is_kept as kept, Fails, Reads, Refuses, Steps};
 ghost use Rattle.clu_network.specs.Scaling.{most_places as most_of, scaled_to, IsNetwork};
+ghost use Rattle.clu_network.specs.Telling.{all_names_in, numbers_in, IsLineOf};
 ghost use Rattle.clu_network.specs.Network.{Net};
 ghost use Rattle.clu_network.specs.declared.error.NetError.TheVariants.{Memory};
-ghost use Rattle.clu_network.specs.NameList.{with_name, number_of};
+ghost use Rattle.clu_network.specs.NameList.{with_name, with_names, number_of};
 
 use crate::entry::{Entry, Fault, read_entry};
 use crate::names::NameTable;
@@ -36,6 +37,9 @@ const MAX_LINES: u64 = 1_000_000;
 pub fn read_network(alloc: Global, bytes: &[u8], places: Option<u8>) -> Result<Network, NetError>
     requires { IfSome places (λ k. k ≤ 9) }
     ensures network { IfOk result (λ net. IsNetwork places bytes.now net) }
+    ensures names { IfOk result (λ net. net.names ≡ with_names [] (all_names_in bytes.now)) }
+    ensures numbers { IfOk result (λ net. map (λ line. line.line) net.lines ≡ numbers_in bytes.now) }
+    ensures told { IfOk result (λ net. All (λ line. IsLineOf places bytes.now net line) net.lines) }
     ensures one { IfOk result (λ net. (other : Net) → IsNetwork places bytes.now other
         → (other.names ≡ net.names) × (other.places ≡ net.places) × (other.lines ≡ net.lines)) }
     ensures refused { IfErr result (λ e. Fails places (enumerate_from 1 (lines_of bytes.now)) [] e) }
@@ -84,11 +88,14 @@ fn read_name(
     ensures few { OnOk result (length names.new ≤ 1000) }
     ensures refused { IfErr result (λ e. Refuses line (1000 < length (with_name names.old field.now)) e) }
 {
-    let name = text(field);
-    if names.len() == MAX_VERTICES && names.find(name).is_none() {
+    if let Some(number) = names.find(field) {
+        return Ok(Vertex(number));
+    }
+    let number = names.len();
+    if number == MAX_VERTICES {
         return Err(NetError::TooManyVertices { line });
     }
-    let number = names.number(alloc, name)?;
+    names.add(alloc, text(field))?;
     Ok(Vertex(number))
 }
 
