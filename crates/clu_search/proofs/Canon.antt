@@ -1,11 +1,10 @@
 -- Each labelling of a list of vertices has one label list that is numbered by first appearance, and it tells labellings apart that
 -- divide the vertices differently.
-use Rattle.std.proofs.Common.{◌≡◌, ℕ, ◌<◌, ◌≢◌, ◌⊎◌, inl, inr, ⊎_elim, List, [], ◌∷◌, length, map, Contains, cond, sym, ap, ◌∙◌, subst, arith, zero, suc, Bool, true, false, ◌==◌, refl}
+use Rattle.std.proofs.Common.{◌≡◌, ℕ, ◌+◌, ◌<◌, ◌≢◌, ◌⊎◌, inl, inr, ⊎_elim, List, [], ◌∷◌, length, map, max, Contains, cond, sym, ap, ◌∙◌, subst, arith, zero, suc, Bool, true, false, ◌==◌, refl}
 use Rattle.std.proofs.lemmas.Bool.{cases_eq, eq-eqb, ne_eqb}
+use Rattle.clu_partition.specs.Partition.{IsNumberedFrom}
 use Rattle.clu_partition.proofs.SumLaws.{Among}
 use Rattle.clu_state.proofs.Bridge.{among_from}
-use Rattle.clu_search.specs.Count.{begun_below, label_lists}
-use Rattle.clu_search.proofs.Pigeon.{among_left, among_right, among_mapped}
 
 -- two members that one of the labellings divides and the other doesn't
 pub record Differ (members : List ℕ) (f g : ℕ → ℕ) : Type 0 where
@@ -114,44 +113,34 @@ firsts_have f (x ∷ xs) seen u (inl e) = firsts_keep f xs (with_seen seen (f x)
     (subst (λ a. Among (f u) (with_seen seen a)) (ap f e) (seen_has seen (f u)))
 firsts_have f (x ∷ xs) seen u (inr m) = firsts_have f xs (with_seen seen (f x)) u m
 
--- ---- it is one of the lists
-begun : (label next : ℕ) (labels : List ℕ) (lists : List (List ℕ)) → label < next → Among labels lists →
-    Among (label ∷ labels) (begun_below next lists)
-begun label zero labels lists l m = absurd (omega arith)
-begun label (suc next) labels lists l m = ⊎_elim
-    (λ e. among_right (label ∷ labels) (begun_below next lists) (map (λ ls. next ∷ ls) lists)
-    (subst (λ k. Among (k ∷ labels) (map (λ ls. next ∷ ls) lists)) (sym e) (among_mapped (λ ls. next ∷ ls) labels lists m)))
-    (λ n. among_left (label ∷ labels) (begun_below next lists) (map (λ ls. next ∷ ls) lists) (begun label next labels lists (omega arith) m))
-    (cases_eq label next)
+-- ---- it is numbered by first appearance
+-- a label in use leaves the next new one as it is, and the next new one is in use from there on
+next_same : (label next : ℕ) → label < next → next ≡ max next (label + 1)
+next_same label next l = omega (arith, l)
 
--- a label in use, before a list
-pub put_old : (label n next : ℕ) (labels : List ℕ) → label < next → Among labels (label_lists n next) →
-    Among (label ∷ labels) (label_lists (suc n) next)
-put_old label n next labels l m = among_left (label ∷ labels) (begun_below next (label_lists n next))
-    (map (λ ls. next ∷ ls) (label_lists n (suc next))) (begun label next labels (label_lists n next) l m)
+next_more : (label next : ℕ) → label ≡ next → suc next ≡ max next (label + 1)
+next_more label next e = omega (arith, e)
 
--- the next new label, before a list
-pub put_new : (n next : ℕ) (labels : List ℕ) → Among labels (label_lists n (suc next)) → Among (next ∷ labels) (label_lists (suc n) next)
-put_new n next labels m = among_right (next ∷ labels) (begun_below next (label_lists n next))
-    (map (λ ls. next ∷ ls) (label_lists n (suc next))) (among_mapped (λ ls. next ∷ ls) labels (label_lists n (suc next)) m)
-
-listed : (f : ℕ → ℕ) (xs seen : List ℕ) → Among (numbered_from f seen xs) (label_lists (length xs) (length seen))
-listed f [] seen = inl refl
-listed f (x ∷ xs) seen =
+numbered_next : (f : ℕ → ℕ) (xs seen : List ℕ) → IsNumberedFrom (length seen) (numbered_from f seen xs)
+numbered_next f [] seen = tt
+numbered_next f (x ∷ xs) seen =
     let tail : List ℕ = numbered_from f (with_seen seen (f x)) xs in
-    let later = listed f xs (with_seen seen (f x)) in
-    let head : place_among (firsts f (with_seen seen (f x)) xs) (f x) ≡ place_among (with_seen seen (f x)) (f x) =
+    let label : ℕ = place_among (firsts f (with_seen seen (f x)) xs) (f x) in
+    let later = numbered_next f xs (with_seen seen (f x)) in
+    let is : label ≡ place_among (with_seen seen (f x)) (f x) =
     firsts_keep_place f xs (with_seen seen (f x)) (f x) (seen_has seen (f x)) in
-    subst (λ k. Among (k ∷ tail) (label_lists (length (x ∷ xs)) (length seen))) (sym head) (⊎_elim
-    (λ k. put_old (place_among (with_seen seen (f x)) (f x)) (length xs) (length seen) tail
-    (subst (λ ys. place_among ys (f x) < length seen) (sym k.0) k.1)
-    (subst (λ ys. Among tail (label_lists (length xs) (length ys))) k.0 later))
-    (λ k. subst (λ h. Among (h ∷ tail) (label_lists (length (x ∷ xs)) (length seen))) (sym k.1)
-    (put_new (length xs) (length seen) tail (subst (λ n. Among tail (label_lists (length xs) n)) k.0 later)))
-    (seen_cases seen (f x)))
+    ⊎_elim
+    (λ k.
+    let place : label ≡ place_among seen (f x) = is ∙ ap (λ ys. place_among ys (f x)) k.0 in
+    let less : label < length seen = subst (λ n. n < length seen) (sym place) k.1 in
+    (omega (arith, less), subst (λ n. IsNumberedFrom n tail) (ap length k.0 ∙ next_same label (length seen) less) later))
+    (λ k.
+    let place : label ≡ length seen = is ∙ k.1 in
+    (omega (arith, place), subst (λ n. IsNumberedFrom n tail) (k.0 ∙ next_more label (length seen) place) later))
+    (seen_cases seen (f x))
 
-pub canonical_listed : (f : ℕ → ℕ) (members : List ℕ) → Among (canonical f members) (label_lists (length members) 0)
-canonical_listed f members = listed f members []
+pub canonical_numbered : (f : ℕ → ℕ) (members : List ℕ) → IsNumberedFrom 0 (canonical f members)
+canonical_numbered f members = numbered_next f members []
 
 -- ---- it tells labellings apart
 place_tells : (xs : List ℕ) (a b : ℕ) → Among a xs → place_among xs a ≡ place_among xs b → a ≡ b

@@ -1,12 +1,11 @@
--- Partitions of a state's class that divide the members differently, and that closed rules permit no more of them than are counted.
-use Rattle.std.proofs.Common.{◌≡◌, ℕ, ◌≤◌, ◌<◌, ◌≢◌, ◌+◌, inl, List, [], ◌∷◌, ◌++◌, length, slice_index, All, Contains, Some, refl, sym, ap, ◌∙◌, subst, arith, suc, true, not, ◌==◌, length-append}
+-- Partitions of a state's class that divide the members differently, and that a list of all that closed rules permit has no fewer.
+use Rattle.std.proofs.Common.{◌≡◌, ℕ, ◌≤◌, ◌<◌, ◌≢◌, ◌+◌, inl, List, [], ◌∷◌, ◌++◌, length, slice_index, All, Contains, Some, refl, sym, ◌∙◌, arith, suc, length-append}
 use Rattle.std.specs.Option.{IfSome}
-use Rattle.std.proofs.lemmas.Bool.{eq-eqb, ne_eqb, and_from}
-use Rattle.std.proofs.lemmas.List.Elements.{All-pop}
-use Rattle.std.proofs.lemmas.List.Sums.{list_all-from_AllPass}
+use Rattle.std.proofs.lemmas.List.{length-map}
+use Rattle.std.proofs.lemmas.List.Elements.{All-contains, All-pop}
 use Rattle.std.proofs.lemmas.List.FromFn.{get_or-map-range_with_len}
-use Rattle.clu_partition.specs.Partition.{below}
-use Rattle.clu_partition.specs.Closed.{Closed, IsClosed}
+use Rattle.clu_partition.specs.Partition.{below, IsPartition}
+use Rattle.clu_partition.specs.Closed.{Closed, IsClosed, IsPermitted}
 use Rattle.clu_partition.proofs.SumLaws.{Each, Among}
 use Rattle.clu_partition.proofs.ListLaws.{each_map}
 use Rattle.clu_partition.proofs.Ranges.{below_size}
@@ -14,12 +13,12 @@ use Rattle.clu_partition.proofs.RangeLaws.{among_range}
 use Rattle.clu_state.specs.State.{State, IsState, InClass, Obeys, IsFree, leader, decided}
 use Rattle.clu_state.specs.declared.decision.Decision.{Decision}
 use Rattle.clu_state.specs.declared.decision.Decision.TheVariants.{Together, Apart}
-use Rattle.clu_state.proofs.Whole.{all_members, among_below}
-use Rattle.clu_search.specs.Count.{label_lists, permits, permitted, count}
+use Rattle.clu_state.proofs.Whole.{among_below}
+use Rattle.clu_search.specs.Count.{HasEachPermitted}
 use Rattle.clu_search.proofs.Own.{own_class}
 use Rattle.clu_partition.proofs.ListLaws.{each_append}
-use Rattle.clu_search.proofs.Pigeon.{Pairwise, each_cross, pairwise_append, among_filtered, pigeon_mapped}
-use Rattle.clu_search.proofs.Canon.{Differ, canonical, numbered, canonical_listed, canonical_differ, numbered_tells, numbered_same}
+use Rattle.clu_search.proofs.Pigeon.{Pairwise, among_contains, each_cross, pairwise_append, pigeon_mapped}
+use Rattle.clu_search.proofs.Canon.{Differ, canonical, numbered, canonical_numbered, canonical_differ, numbered_tells, numbered_same}
 
 -- ---- partitions of a class
 -- k + 1 partitions of the class, any two of which divide the members differently
@@ -97,41 +96,49 @@ family_permitted s k f = record {
   differ = f.differ;
 }
 
--- ---- they are no more than the lists
+-- ---- a list that has each permitted partition has no fewer
 numbered_at : (label : ℕ → ℕ) (n v : ℕ) → v < n → slice_index (canonical label (below n)) v ≡ numbered label (below n) v
 numbered_at label n v l = get_or-map-range_with_len (numbered label (below n)) 0 n v v 0 l (omega arith)
 
 among_all : (n v : ℕ) → v < n → Among v (below n)
 among_all n v l = among_range 0 n v (omega arith) (omega (arith, l))
 
-tied_pass : (c : Closed) → IsClosed c → (label : ℕ → ℕ) → (v : ℕ) → v < length c.group → label (slice_index c.group v) ≡ label v →
-    (slice_index (canonical label (below (length c.group))) (slice_index c.group v) == slice_index (canonical label (below (length c.group))) v) ≡ true
-tied_pass c i label v l e =
+stays_tied : (c : Closed) → IsClosed c → (label : ℕ → ℕ) → (v : ℕ) → v < length c.group → label (slice_index c.group v) ≡ label v →
+    slice_index (canonical label (below (length c.group))) (slice_index c.group v) ≡ slice_index (canonical label (below (length c.group))) v
+stays_tied c i label v l e =
     let b = i.below v l in
-    eq-eqb _ _ (numbered_at label (length c.group) (slice_index c.group v) (omega (arith, b, l))
-    ∙ numbered_same label (below (length c.group)) (slice_index c.group v) v e ∙ sym (numbered_at label (length c.group) v l))
+    numbered_at label (length c.group) (slice_index c.group v) (omega (arith, b, l))
+    ∙ numbered_same label (below (length c.group)) (slice_index c.group v) v e ∙ sym (numbered_at label (length c.group) v l)
 
-split_pass : (n : ℕ) (label : ℕ → ℕ) (u v : ℕ) → u < n → v < n → label u ≢ label v →
-    not (slice_index (canonical label (below n)) u == slice_index (canonical label (below n)) v) ≡ true
-split_pass n label u v k l d = ap not (ne_eqb _ _ (λ e.
-    d (numbered_tells label (below n) u v (among_all n u k) (sym (numbered_at label n u k) ∙ e ∙ numbered_at label n v l))))
+stays_split : (n : ℕ) (label : ℕ → ℕ) (u v : ℕ) → u < n → v < n → label u ≢ label v →
+    slice_index (canonical label (below n)) u ≢ slice_index (canonical label (below n)) v
+stays_split n label u v k l d e =
+    d (numbered_tells label (below n) u v (among_all n u k) (sym (numbered_at label n u k) ∙ e ∙ numbered_at label n v l))
 
-canonical_permits : (c : Closed) → IsClosed c → (label : ℕ → ℕ) → Permits c (below (length c.group)) label →
-    permits c (slice_index (canonical label (below (length c.group)))) ≡ true
-canonical_permits c i label p = and_from _ _
-    (list_all-from_AllPass _ (below (length c.group)) (λ k d l.
-    tied_pass c i label _ ((all_members c i).below k d l) (p.required k d l)))
-    (list_all-from_AllPass _ c.forbidden (λ k d l.
-    let r = i.in_range k d l in
-    split_pass (length c.group) label _ _ r.0 r.1 (p.forbidden k d l (among_below (length c.group) _ r.0) (among_below (length c.group) _ r.1))))
+canonical_partition : (n : ℕ) (label : ℕ → ℕ) → IsPartition n (canonical label (below n))
+canonical_partition n label = record {
+  one_each = length-map (below n) (numbered label (below n)) ∙ below_size n;
+  numbered = canonical_numbered label (below n);
+}
 
-pub permitted_counted : (c : Closed) (many : ℕ) → IsClosed c → Permitted c (below (length c.group)) many → many ≤ count c
-permitted_counted c many i f =
+canonical_permitted : (c : Closed) → IsClosed c → (label : ℕ → ℕ) → Permits c (below (length c.group)) label →
+    IsPermitted c (slice_index (canonical label (below (length c.group))))
+canonical_permitted c i label p = record {
+  required = λ v l. stays_tied c i label v l
+      (All-contains (λ v. label (slice_index c.group v) ≡ label v) (below (length c.group)) v p.required (among_below (length c.group) v l));
+  forbidden = λ k d l.
+      let r = i.in_range k d l in
+      stays_split (length c.group) label _ _ r.0 r.1
+      (p.forbidden k d l (among_below (length c.group) _ r.0) (among_below (length c.group) _ r.1));
+}
+
+pub permitted_counted : (c : Closed) (lists : List (List ℕ)) (many : ℕ) → IsClosed c → HasEachPermitted c lists →
+    Permitted c (below (length c.group)) many → many ≤ length lists
+permitted_counted c lists many i has f =
     let all : List ℕ = below (length c.group) in
-    let h = pigeon_mapped (Differ all) (λ label. canonical label all) f.labellings (permitted c) (canonical_differ all) f.differ
-    (each_map (Permits c all) (λ label. Among (canonical label all) (permitted c)) f.labellings (λ label p.
-    among_filtered (λ labels. permits c (slice_index labels)) (canonical label all) (label_lists (length c.group) 0)
-    (subst (λ n. Among (canonical label all) (label_lists n 0)) (below_size (length c.group)) (canonical_listed label all))
-    (canonical_permits c i label p)) f.within) in
+    let h = pigeon_mapped (Differ all) (λ label. canonical label all) f.labellings lists (canonical_differ all) f.differ
+    (each_map (Permits c all) (λ label. Among (canonical label all) lists) f.labellings (λ label p.
+    among_contains lists (canonical label all)
+    (has.each (canonical label all) (canonical_partition (length c.group) label) (canonical_permitted c i label p))) f.within) in
     let k = f.many_are in
     omega (arith, h, k)

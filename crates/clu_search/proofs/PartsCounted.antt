@@ -1,4 +1,4 @@
--- The proofs of a valid certificate have fewer branch items in all than there are permitted partitions.
+-- The proofs of a valid certificate have fewer branch items in all than a list of all permitted partitions has elements.
 use Rattle.std.proofs.Common.{◌≡◌, ℕ, ◌*◌, ◌<◌, ℤ, ⊎_elim, List, [], ◌∷◌, ◌++◌, length, get_or, slice_index, All, Contains, refl, sym, subst, arith, zero, suc}
 use Rattle.std.specs.List.{concat, sum_by}
 use Rattle.std.proofs.Math.Nat.{suc-mul}
@@ -20,7 +20,7 @@ use Rattle.clu_reduce.proofs.PartOf.{InPart, place_is, covered}
 use Rattle.clu_cert.proofs.Uppers.{parts_in, HasRoot, root_members, HasProofs}
 use Rattle.clu_cert.proofs.ValidLaws.{has_proofs}
 use Rattle.clu_tree.specs.Items.{branch_items}
-use Rattle.clu_search.specs.Count.{count}
+use Rattle.clu_search.specs.Count.{HasEachPermitted}
 use Rattle.clu_search.specs.Outcome.{branchings_of}
 use Rattle.clu_search.proofs.Pigeon.{pairwise_weaker}
 use Rattle.clu_search.proofs.Canon.{Differ}
@@ -111,12 +111,12 @@ moved c xs ys many to back p = record {
       (λ f g d. record { u = d.u; v = d.v; first = to d.u d.first; second = to d.v d.second; tells = d.tells }) p.differ;
 }
 
-pub parts_counted : (problem : Posed) (start : Closed) (steps : List Step) (proofs : List Proof) (uppers : List ℤ) →
-    HasProofs problem start steps proofs uppers → sum_by (λ proof. branch_items proof.items) proofs < count start
-parts_counted problem start steps proofs uppers h =
+pub parts_counted : (problem : Posed) (start : Closed) (steps : List Step) (proofs : List Proof) (uppers : List ℤ) (lists : List (List ℕ)) →
+    HasProofs problem start steps proofs uppers → HasEachPermitted start lists → sum_by (λ proof. branch_items proof.items) proofs < length lists
+parts_counted problem start steps proofs uppers lists h has =
     let p = moved start (concat (parts_in proofs)) (below (length start.group)) (choices proofs) to back
     (parts_permitted problem start steps proofs uppers [] h.root h.parts h.proved) in
-    let m = permitted_counted start (choices proofs) h.root.task.closed p in
+    let m = permitted_counted start lists (choices proofs) h.root.task.closed has p in
     let n = sum_below_choices proofs in
     omega (arith, m, n)
   where
@@ -133,7 +133,7 @@ parts_counted problem start steps proofs uppers h =
         let r = covered (stepped (whole problem start) steps) (parts_in proofs) h.cover v m in
         in_all (parts_in proofs) r.place v r.within r.has
 
-pub valid_counted : (problem : Posed) (start : Closed) (cert : Certificate) → IsTask problem start → IsValid problem start cert →
-    branchings_of cert < count start
-valid_counted problem start cert t valid =
-    parts_counted problem start cert.root_steps cert.proofs valid.uppers (has_proofs problem start cert t valid)
+pub valid_counted : (problem : Posed) (start : Closed) (cert : Certificate) (lists : List (List ℕ)) → IsTask problem start →
+    IsValid problem start cert → HasEachPermitted start lists → branchings_of cert < length lists
+valid_counted problem start cert lists t valid has =
+    parts_counted problem start cert.root_steps cert.proofs valid.uppers lists (has_proofs problem start cert t valid) has

@@ -9,9 +9,9 @@ use Rattle.clu_partition.specs.Closed.{Closed, IsPermitted}
 use Rattle.clu_partition.specs.Partition.{below, IsNumberedFrom}
 use Rattle.clu_partition.proofs.SumLaws.{Each, Among}
 use Rattle.clu_partition.proofs.ListLaws.{each_append, each_at, each_map, every}
-use Rattle.clu_search.specs.Count.{HasEachPermitted, begun_below, label_lists, permits, permitted}
-use Rattle.clu_search.proofs.Canon.{first_or, rest_of, put_new, put_old}
-use Rattle.clu_search.proofs.Pigeon.{Pairwise, among_filtered, each_cross, each_mapped, pairwise_append, pairwise_mapped}
+use Rattle.clu_search.specs.Count.{HasEachPermitted, begun_below, label_lists, partitions, permits, permitted_of}
+use Rattle.clu_search.proofs.Canon.{first_or, rest_of}
+use Rattle.clu_search.proofs.Pigeon.{Pairwise, among_filtered, among_left, among_mapped, among_right, each_cross, each_mapped, pairwise_append, pairwise_mapped}
 
 -- ---- from recursion to places
 contains_among : {A : Type 0} (xs : List A) (c : A) → Among c xs → Contains xs c
@@ -33,7 +33,27 @@ each_passed P test (x ∷ xs) a = by (test x) (λ e. e) (each_passed P test xs a
     by true f r = ((a.0, f refl), r)
     by false f r = r
 
--- ---- the lists that begin with a label in use
+-- ---- the lists that begin with a label in use, and those that begin with a new one
+begun : (label next : ℕ) (labels : List ℕ) (lists : List (List ℕ)) → label < next → Among labels lists →
+    Among (label ∷ labels) (begun_below next lists)
+begun label zero labels lists l m = absurd (omega arith)
+begun label (suc next) labels lists l m = ⊎_elim
+    (λ e. among_right (label ∷ labels) (begun_below next lists) (map (λ ls. next ∷ ls) lists)
+    (subst (λ k. Among (k ∷ labels) (map (λ ls. next ∷ ls) lists)) (sym e) (among_mapped (λ ls. next ∷ ls) labels lists m)))
+    (λ n. among_left (label ∷ labels) (begun_below next lists) (map (λ ls. next ∷ ls) lists) (begun label next labels lists (omega arith) m))
+    (cases_eq label next)
+
+-- a label in use, before a list
+put_old : (label n next : ℕ) (labels : List ℕ) → label < next → Among labels (label_lists n next) →
+    Among (label ∷ labels) (label_lists (suc n) next)
+put_old label n next labels l m = among_left (label ∷ labels) (begun_below next (label_lists n next))
+    (map (λ ls. next ∷ ls) (label_lists n (suc next))) (begun label next labels (label_lists n next) l m)
+
+-- the next new label, before a list
+put_new : (n next : ℕ) (labels : List ℕ) → Among labels (label_lists n (suc next)) → Among (next ∷ labels) (label_lists (suc n) next)
+put_new n next labels m = among_right (next ∷ labels) (begun_below next (label_lists n next))
+    (map (λ ls. next ∷ ls) (label_lists n (suc next))) (among_mapped (λ ls. next ∷ ls) labels (label_lists n (suc next)) m)
+
 begun_each : (P Q : List ℕ → Type 0) (next : ℕ) (lists : List (List ℕ)) → ((label : ℕ) (labels : List ℕ) → label < next → P labels → Q (label ∷ labels))
     → Each P lists → Each Q (begun_below next lists)
 begun_each P Q zero lists f a = tt
@@ -119,14 +139,17 @@ obeys c label e = record {
       (sym (AllPass-from_list_all (λ q. not (label q.0 == label q.1)) c.forbidden (and_parts _ _ e).1 k d l) ∙ ap not (eq-eqb _ _ f));
 }
 
-pub has_each_permitted : (c : Closed) → HasEachPermitted c (permitted c)
+-- those of all partitions that pass are each permitted one, once
+pub has_each_permitted : (c : Closed) → HasEachPermitted c (permitted_of c (partitions (length c.group)))
+unfolding permitted_of
 has_each_permitted c =
     let n : ℕ = length c.group in
-    let test = λ (labels : List ℕ). permits c (slice_index labels) in record {
-      each = λ labels p q. contains_among (permitted c) labels (among_filtered test labels (label_lists n 0)
+    let test = λ (labels : List ℕ). permits c (slice_index labels) in
+    let passing : List (List ℕ) = filter test (label_lists n 0) in record {
+      each = λ labels p q. contains_among passing labels (among_filtered test labels (label_lists n 0)
           (subst (λ k. Among labels (label_lists k 0)) p.one_each (each_numbered 0 labels p.numbered)) (passes c (slice_index labels) q));
       only = λ k d l.
-          let h = each_at (λ labels. IsLabelList n 0 labels × (test labels ≡ true)) (permitted c) k d l
+          let h = each_at (λ labels. IsLabelList n 0 labels × (test labels ≡ true)) passing k d l
           (each_passed (IsLabelList n 0) test (label_lists n 0) (only_numbered n 0)) in
           (record { one_each = h.0.0; numbered = h.0.1 }, obeys c _ h.1);
       once = AllPairs-filter (λ x y. x ≢ y) test (label_lists n 0) (pairs_differ (λ x y. x ≢ y) (label_lists n 0) (none_twice n 0));

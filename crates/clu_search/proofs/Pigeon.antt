@@ -1,5 +1,5 @@
 -- A list without repeats, all of it among another, is no longer than that.
-use Rattle.std.proofs.Common.{◌≡◌, ◌≤◌, ◌≢◌, ◌⊎◌, inl, inr, List, [], ◌∷◌, ◌++◌, length, map, filter, cond, refl, sym, ap, ◌∙◌, arith, suc, Bool, true, false}
+use Rattle.std.proofs.Common.{◌≡◌, ℕ, ◌<◌, ◌≤◌, ◌≢◌, ◌⊎◌, inl, inr, List, [], ◌∷◌, ◌++◌, length, map, filter, get_or, Contains, cond, refl, sym, ap, ◌∙◌, arith, zero, suc, Bool, true, false}
 use Rattle.std.proofs.lemmas.List.{length-map}
 use Rattle.clu_partition.proofs.SumLaws.{Each, Among}
 use Rattle.clu_partition.proofs.ListLaws.{each_append, each_map}
@@ -70,6 +70,14 @@ pairwise_append R [] ys p q a = q
 pairwise_append R (x ∷ xs) ys p q a = (each_append (R x) xs ys p.0 a.0, pairwise_append R xs ys p.1 q a.1)
 
 -- ---- an element of a list
+among_at : {A : Type 0} (xs : List A) (k : ℕ) (c : A) → k < length xs → get_or xs k c ≡ c → Among c xs
+among_at [] k c l e = absurd (omega arith)
+among_at (x ∷ xs) zero c l e = inl (sym e)
+among_at (x ∷ xs) (suc k) c l e = inr (among_at xs k c (omega arith) e)
+
+pub among_contains : {A : Type 0} (xs : List A) (c : A) → Contains xs c → Among c xs
+among_contains xs c h = among_at xs h.0 c h.1 h.2
+
 pub among_mapped : {A B : Type 0} (f : A → B) (c : A) (xs : List A) → Among c xs → Among (f c) (map f xs)
 among_mapped f c [] m = absurd m
 among_mapped f c (x ∷ xs) (inl e) = inl (ap f e)

@@ -20,9 +20,17 @@ abbrev pub permits : Closed → (ℕ → ℕ) → Bool
 permits c label =
     list_all (λ v. label (slice_index c.group v) == label v) (below (length c.group)) && list_all (λ p. not (label p.0 == label p.1)) c.forbidden
 
+-- all partitions of n vertices
+abbrev pub partitions : ℕ → List (List ℕ)
+partitions n = label_lists n 0
+
+-- those of these partitions that the rules permit
+unfoldable pub permitted_of : Closed → List (List ℕ) → List (List ℕ)
+permitted_of c lists = filter (λ labels. permits c (slice_index labels)) lists
+
 -- all permitted partitions of the vertices
 abbrev pub permitted : Closed → List (List ℕ)
-permitted c = filter (λ labels. permits c (slice_index labels)) (label_lists (length c.group) 0)
+permitted c = permitted_of c (partitions (length c.group))
 
 -- how many there are
 abbrev pub count : Closed → ℕ

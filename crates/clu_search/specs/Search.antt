@@ -1,5 +1,5 @@
 -- How far a search is: the branch tree of all vertices, and the best partition so far.
-use Rattle.std.specs.Prelude.{◌≡◌, ℕ, ◌≤◌, ℤ, ◌≤ℤ◌, ◌<ℤ◌, List, None}
+use Rattle.std.specs.Prelude.{◌≡◌, ◌⊎◌, ℕ, ◌≤◌, ℤ, ◌≤ℤ◌, ◌<ℤ◌, List, None}
 use Rattle.clu_partition.specs.Partition.{below}
 use Rattle.clu_objective.specs.Problem.{IsPosed}
 use Rattle.clu_state.specs.State.{IsState}
@@ -52,6 +52,10 @@ pub record IsAbove (s : Search) (key : ℕ) : Type 0 where
 -- no leaf has a bound above the best value
 abbrev pub IsDone : Search → Type 0
 IsDone s = (key : ℕ) (node : NodeBound) → LeafAt key node s.tree.nodes → node.bound ≤ℤ s.incumbent.value
+
+-- all allowed branchings were made, or no leaf has a bound above the best value
+abbrev pub IsStopped : Search → ℕ → Type 0
+IsStopped s allowed = (made s ≡ allowed) ⊎ IsDone s
 
 -- the certificate of the best partition, with the tree as its proof
 pub record IsCertified (s : Search) (cert : Certificate) : Type 0 where

@@ -1,10 +1,10 @@
-ghost use Rattle.std.specs.Prelude.{◌≡◌, ◌⊎◌, ◌+◌, ◌≤◌, ◌<◌, ◌^◌, ◌≤ℤ◌, IfOk, OnOk, length};
+ghost use Rattle.std.specs.Prelude.{◌≡◌, ◌+◌, ◌≤◌, ◌<◌, ◌^◌, ◌≤ℤ◌, IfOk, OnOk, length};
 ghost use Rattle.clu_partition.specs.Partition.{below};
 ghost use Rattle.clu_state.specs.State.{State, IsState, CanDecide, CanDecideAll, decided};
 ghost use Rattle.clu_cert.specs.Valid.{whole};
 ghost use Rattle.clu_tree.specs.Nodes.{IsFit};
 ghost use Rattle.clu_search.specs.Incumbent.{IsIncumbent};
-ghost use Rattle.clu_search.specs.Search.{IsAbove, IsCertified, IsDone, IsSearch, IsSettled, SameTask, made};
+ghost use Rattle.clu_search.specs.Search.{IsAbove, IsCertified, IsSearch, IsSettled, IsStopped, SameTask, made};
 
 use crate::certify::certify;
 use crate::incumbent::Incumbent;
@@ -155,7 +155,7 @@ impl<'p> Search<'p> {
         ensures search { OnOk result (IsSearch self.new) }
         ensures task { OnOk result (SameTask self.old self.new) }
         ensures within { OnOk result (made self.new ≤ allowed) }
-        ensures done { OnOk result ((made self.new ≡ allowed) ⊎ IsDone self.new) }
+        ensures stopped { OnOk result (IsStopped self.new allowed) }
     {
         for _ in 0..allowed {
             let Some(key) = self.tree.best_leaf(self.incumbent.value) else {

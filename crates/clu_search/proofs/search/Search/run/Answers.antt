@@ -3,7 +3,7 @@ use Rattle.std.specs.Int.{w128}
 use Rattle.std.proofs.lemmas.Int.{ints}
 use Rattle.clu_search.proofs.search.Search.run.Goals as goal
 
-pub returns-in_default-clause-done : goal.returns-in_default-clause-done
-returns-in_default-clause-done c =
+pub returns-in_default-clause-stopped : goal.returns-in_default-clause-stopped
+returns-in_default-clause-stopped c =
     let value : to_z w128 (of_z w128 c.loop.self.incumbent.value) ≡ c.loop.self.incumbent.value = omega (arith, ints) in
     inr (λ key node leaf. subst (λ (z : ℤ). node.bound ≤ℤ z) value (c.in_default.ensures.none key node leaf))
