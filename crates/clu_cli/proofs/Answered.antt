@@ -1,25 +1,27 @@
--- The edits of a partition are its printed number, and so the printed bound is one of edits.
-use Rattle.std.proofs.Common.{◌≡◌, ◌↔◌, ℕ, ℤ, pos, ◌≤◌, ◌≤ℤ◌, List, Bool, true, false, IsTrue, All, slice_index, refl, sym, ◌∙◌, ap, subst, arith, if◌then◌else◌}
+-- What a partition is worth is its printed number, and so the printed bound is one of what partitions are worth.
+use Rattle.std.proofs.Common.{◌≡◌, ◌↔◌, ℕ, ℤ, ◌≤◌, List, Bool, true, false, IsTrue, All, slice_index, refl, sym, ap, subst, arith, if◌then◌else◌}
 use Rattle.std.proofs.lemmas.List.Elements.{All-nil}
 use Rattle.clu_partition.specs.Closed.{Closed, IsOpen, IsPermitted}
 use Rattle.clu_partition.specs.Pairs.{weight_of}
 use Rattle.clu_partition.specs.Partition.{below, IsPartition}
 use Rattle.clu_partition.specs.Values.{value_on}
-use Rattle.clu_pace.specs.Graph.{PaceGraph}
-use Rattle.clu_objective.specs.Edits.{edits, PosesEdits, PrintsEdits}
 use Rattle.clu_objective.specs.Problem.{Posed, printed, IsBetterOrEqual}
 use Rattle.clu_objective.specs.declared.objective.Objective.{Objective}
 use Rattle.clu_search.specs.declared.outcome.End.{End}
+use Rattle.clu_cli.specs.Instances.{IsReached, Poses, Prints, objective_of, vertices_of, worth}
+use Rattle.clu_cli.specs.declared.instance.Instance.{Instance}
+use Rattle.clu_cli.proofs.InstanceLaws.{objective_posed, worth_printed}
 use Rattle.clu_search.specs.declared.outcome.End.TheVariants.{Optimal, Branchings}
 
-module _ (graph : PaceGraph) (problem : Posed) (poses : PosesEdits graph problem) (prints : PrintsEdits graph problem) where
-  pub value_edits : (labels : List ℕ) → printed problem (value_on (weight_of problem.pairs) (slice_index labels) (below problem.pairs.n)) ≡ pos (edits graph labels)
-  value_edits labels = ap (λ (n : ℕ). printed problem (value_on (weight_of problem.pairs) (slice_index labels) (below n))) poses.vertices ∙ prints labels
+module _ (instance : Instance) (problem : Posed) (poses : Poses instance problem) (prints : Prints instance problem) where
+  pub value_worth : (labels : List ℕ) → IsPartition (vertices_of instance) labels
+      → printed problem (value_on (weight_of problem.pairs) (slice_index labels) (below problem.pairs.n)) ≡ worth instance labels
+  value_worth labels partition = worth_printed instance problem poses prints labels partition.one_each
 
-  pub none_fewer : (bound : ℤ) → ((labels : List ℕ) → IsBetterOrEqual problem.objective bound (printed problem (value_on (weight_of problem.pairs) (slice_index labels) (below problem.pairs.n)))) →
-      (others : List ℕ) → IsPartition graph.n others → bound ≤ℤ pos (edits graph others)
-  none_fewer bound h others _ = subst (λ (z : ℤ). bound ≤ℤ z) (value_edits others)
-      (subst (λ (o : Objective). IsBetterOrEqual o bound (printed problem (value_on (weight_of problem.pairs) (slice_index others) (below problem.pairs.n)))) poses.objective (h others))
+  pub none_better : (bound : ℤ) → ((labels : List ℕ) → IsBetterOrEqual problem.objective bound (printed problem (value_on (weight_of problem.pairs) (slice_index labels) (below problem.pairs.n)))) →
+      (others : List ℕ) → IsPartition (vertices_of instance) others → IsReached instance bound others
+  none_better bound h others partition = subst (λ (z : ℤ). IsBetterOrEqual (objective_of instance) bound z) (value_worth others partition)
+      (subst (λ (o : Objective). IsBetterOrEqual o bound (printed problem (value_on (weight_of problem.pairs) (slice_index others) (below problem.pairs.n)))) (objective_posed instance problem poses) (h others))
 
 -- the status is 0 or 1
 pub at_most_one : (b : Bool) → (if b then 0 else 1) ≤ 1

@@ -3,6 +3,7 @@ pub mod Asked
 pub mod Checking
 pub mod Decided
 pub mod Ends
+pub mod InstanceLaws
 pub mod Keeping
-pub mod Lines
+pub mod OptionLaws
 pub mod Printing

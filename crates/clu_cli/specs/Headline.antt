@@ -1,13 +1,9 @@
 -- What a run promises: the headline, and the cause of each status.
-use Rattle.std.specs.Prelude.{◌≡◌, ◌≢◌, ◌⊎◌, ◌↔◌, ℕ, pos, ◌≤◌, ◌<◌, ◌≤ℤ◌, List, [], ◌∷◌, length, take, Bool, Option, Some, None, Result, Ok, Err, if◌then◌else◌}
+use Rattle.std.specs.Prelude.{◌≡◌, ◌≢◌, ◌⊎◌, ◌↔◌, ℕ, pos, ◌≤◌, ◌<◌, List, [], ◌∷◌, length, take, Bool, Option, Some, None, Result, Ok, Err, if◌then◌else◌}
 use Rattle.clu_outside.specs.Folder.{Told, after_load, Holds, HoldsMore, Lacks, IsStored, IsStoredPartly, CallsWithin, stores_of}
 use Rattle.clu_outside.specs.Sink.{TakesSome, with_bytes}
 use Rattle.clu_partition.specs.Closed.{Closed, IsOpen}
 use Rattle.clu_partition.specs.Partition.{EachOnce, IsPartition, blocks_of}
-use Rattle.clu_pace.specs.Graph.{PaceGraph}
-use Rattle.clu_pace.specs.Numbers.{graph_names}
-use Rattle.clu_pace.specs.Pace.{IsAccepted}
-use Rattle.clu_objective.specs.Edits.{edits, PosesEdits}
 use Rattle.clu_objective.specs.Problem.{Posed}
 use Rattle.clu_cert.specs.Faults.{IsFault}
 use Rattle.clu_cert.specs.Fits.{Fits}
@@ -15,93 +11,110 @@ use Rattle.clu_cert.specs.Text.{text}
 use Rattle.clu_cert.specs.Valid.{IsValid}
 use Rattle.clu_cert.specs.declared.certificate.Certificate.{Certificate}
 use Rattle.clu_check.specs.Rejected.{IsRejected}
+use Rattle.clu_check.specs.declared.reject.Reject.{Reject}
 use Rattle.clu_check.specs.declared.reject.Reject.TheVariants as reject
 use Rattle.clu_search.specs.Count.{count}
 use Rattle.clu_search.specs.Outcome.{StatesItsBound, branchings_of}
+use Rattle.clu_cli.specs.declared.form.Form.{Form}
+use Rattle.clu_cli.specs.declared.instance.Instance.{Instance}
+use Rattle.clu_cli.specs.declared.refusal.Refusal.{Refusal}
 use Rattle.clu_cli.specs.declared.report.Facts.{Facts}
 use Rattle.clu_cli.specs.declared.stop.Stop.{Stop}
 use Rattle.clu_cli.specs.declared.stop.Stop.TheVariants.{Refused, BadText, Rejected, Words, ReadFault, WriteFault, Memory, TooLong, NoFile}
+use Rattle.clu_cli.specs.Instances.{IsInstance, IsReached, Poses, Refuses, names_of, objective_of, scale_of, vertices_of, worth}
 use Rattle.clu_cli.specs.Report.{report, check_report}
 use Rattle.clu_cli.specs.Status.{stop_line}
-use Rattle.clu_cli.specs.Words.{Command, solve, check, graph_file}
+use Rattle.clu_cli.specs.Words.{Command, solve, check, form_of, graph_file}
 
 -- ---- what is printed
--- The certificate is valid for the problem of the graph, without rules.
-pub record Certifies (graph : PaceGraph) (cert : Certificate) : Type 0 where
+-- The certificate is valid for the problem of the instance, without rules.
+pub record Certifies (instance : Instance) (cert : Certificate) : Type 0 where
   pub problem : Posed
-  pub poses : PosesEdits graph problem
+  pub poses : Poses instance problem
   pub start : Closed
-  pub unbound : IsOpen graph.n start
+  pub unbound : IsOpen (vertices_of instance) start
   pub valid : IsValid problem start cert
 
--- the bytes are the text of no certificate that is valid for the graph
-abbrev pub NoneCertifies : PaceGraph → List ℕ → Type 0
-NoneCertifies graph bytes = (cert : Certificate) → Fits cert → bytes ≡ text cert → Certifies graph cert → ⊥
+-- the bytes are the text of no certificate that is valid for the instance
+abbrev pub NoneCertifies : Instance → List ℕ → Type 0
+NoneCertifies instance bytes = (cert : Certificate) → Fits cert → bytes ≡ text cert → Certifies instance cert → ⊥
+
+-- the first condition of a valid certificate that fails
+pub record IsFaulty (instance : Instance) (bytes : List ℕ) (found : Reject) : Type 0 where
+  pub cert : Certificate
+  pub fits : Fits cert
+  pub read : bytes ≡ text cert
+  pub problem : Posed
+  pub poses : Poses instance problem
+  pub start : Closed
+  pub unbound : IsOpen (vertices_of instance) start
+  pub rejected : IsRejected problem start cert found
 
 -- why they are none: the first bad line, or the first condition that fails
-abbrev pub FindsFault : PaceGraph → List ℕ → Stop → Type 0
-FindsFault graph bytes (BadText line) = IsFault bytes line
-FindsFault graph bytes (Rejected found) = (found ≢ reject.Memory) × (cert : Certificate) × Fits cert × (bytes ≡ text cert)
-    × (problem : Posed) × PosesEdits graph problem × (start : Closed) × IsOpen graph.n start × IsRejected problem start cert found
-FindsFault graph bytes Refused = ⊥
-FindsFault graph bytes Words = ⊥
-FindsFault graph bytes ReadFault = ⊥
-FindsFault graph bytes WriteFault = ⊥
-FindsFault graph bytes Memory = ⊥
-FindsFault graph bytes TooLong = ⊥
-FindsFault graph bytes NoFile = ⊥
+abbrev pub FindsFault : Instance → List ℕ → Stop → Type 0
+FindsFault instance bytes (BadText line) = IsFault bytes line
+FindsFault instance bytes (Rejected found) = (found ≢ reject.Memory) × IsFaulty instance bytes found
+FindsFault instance bytes (Refused refusal) = ⊥
+FindsFault instance bytes Words = ⊥
+FindsFault instance bytes ReadFault = ⊥
+FindsFault instance bytes WriteFault = ⊥
+FindsFault instance bytes Memory = ⊥
+FindsFault instance bytes TooLong = ⊥
+FindsFault instance bytes NoFile = ⊥
 
--- What a search without rules leaves: the certificate is valid for the problem of the graph, its bound is exactly what its items
--- prove, and it has fewer branches than the graph's vertices have partitions.
-pub record IsSearched (graph : PaceGraph) (cert : Certificate) : Type 0 where
+-- What a search without rules leaves: the certificate is valid for the problem of the instance, its bound is exactly what its items
+-- prove, and it has fewer branches than the vertices have partitions.
+pub record IsSearched (instance : Instance) (cert : Certificate) : Type 0 where
   pub problem : Posed
-  pub poses : PosesEdits graph problem
+  pub poses : Poses instance problem
   pub start : Closed
-  pub unbound : IsOpen graph.n start
+  pub unbound : IsOpen (vertices_of instance) start
   pub valid : IsValid problem start cert
   pub exact : StatesItsBound problem start cert
   pub counted : branchings_of cert < count start
 
--- What is printed for the bytes of a graph file, where so many branchings are allowed. They are a text of one graph alone. The
--- report is that of a partition whose blocks hold each vertex exactly once. The printed value is exactly its number of edits,
--- and no partition has fewer edits than the printed bound. The status is 0 exactly where value and bound are equal, and else 1,
--- which comes only where all allowed branchings were made. The certificate has these blocks, this value, this bound and as many branches as the
--- printed branchings; it is valid, and its bound is exactly what it proves. There are fewer branchings than partitions.
-pub record IsAnswer (bytes printed : List ℕ) (cert : Certificate) (limit status : ℕ) : Type 0 where
-  pub graph : PaceGraph
-  pub accepted : IsAccepted bytes graph
-  pub only : (other : PaceGraph) → IsAccepted bytes other → other ≡ graph
+-- What is printed for an instance, where so many branchings are allowed. The report is that of a partition whose blocks hold each
+-- vertex exactly once. The printed value is exactly its objective, at the printed scale, and no partition is better than the
+-- printed bound. The status is 0 exactly where value and bound are equal, and else 1, which comes only where all allowed
+-- branchings were made. The certificate has these blocks, this value, this bound and as many branches as the printed branchings; it
+-- is valid, and its bound is exactly what it proves. There are fewer branchings than partitions.
+pub record IsAnswer (instance : Instance) (printed : List ℕ) (cert : Certificate) (limit status : ℕ) : Type 0 where
   pub labels : List ℕ
-  pub partition : IsPartition graph.n labels
-  pub each_once : EachOnce graph.n (blocks_of labels)
+  pub partition : IsPartition (vertices_of instance) labels
+  pub each_once : EachOnce (vertices_of instance) (blocks_of labels)
   pub facts : Facts
-  pub vertices : facts.vertices ≡ graph.n
-  pub value : facts.value ≡ pos (edits graph labels)
-  pub none_better : (others : List ℕ) → IsPartition graph.n others → facts.bound ≤ℤ pos (edits graph others)
-  pub text : printed ≡ report facts (graph_names graph) labels
+  pub objective : facts.objective ≡ objective_of instance
+  pub vertices : facts.vertices ≡ vertices_of instance
+  pub value : facts.value ≡ worth instance labels
+  pub none_better : (others : List ℕ) → IsPartition (vertices_of instance) others → IsReached instance facts.bound others
+  pub scale : pos facts.scale ≡ scale_of instance
+  pub text : printed ≡ report facts (names_of instance) labels
   pub known : status ≤ 1
   pub optimal : (status ≡ 0) ↔ (facts.value ≡ facts.bound)
   pub gap : status ≡ 1 → facts.branchings ≡ limit
   pub within : facts.branchings ≤ limit
   pub fits : Fits cert
-  pub searched : IsSearched graph cert
+  pub searched : IsSearched instance cert
   pub stated_blocks : cert.labels ≡ labels
   pub stated_value : cert.value ≡ facts.value
   pub stated_bound : cert.bound ≡ facts.bound
   pub stated_branchings : branchings_of cert ≡ facts.branchings
 
--- What is printed for an accepted certificate of a graph. The bytes are the text of one certificate alone, and it is valid. Its
--- labels are those of a partition, and its value is exactly their number of edits. No partition has fewer edits than its bound.
-pub record IsProofOf (graph : PaceGraph) (bytes printed : List ℕ) : Type 0 where
+-- What is printed for an accepted certificate of an instance. The bytes are the text of one certificate alone, and it is valid. Its
+-- labels are those of a partition, and its value is exactly their objective, at the printed scale. No partition is better than its
+-- bound.
+pub record IsProofOf (instance : Instance) (bytes printed : List ℕ) : Type 0 where
   pub cert : Certificate
   pub fits : Fits cert
   pub read : bytes ≡ text cert
   pub only : (other : Certificate) → Fits other → bytes ≡ text other → other ≡ cert
-  pub certifies : Certifies graph cert
-  pub partition : IsPartition graph.n cert.labels
-  pub value : cert.value ≡ pos (edits graph cert.labels)
-  pub none_better : (others : List ℕ) → IsPartition graph.n others → cert.bound ≤ℤ pos (edits graph others)
-  pub printed_is : printed ≡ check_report graph.n cert.value cert.bound
+  pub certifies : Certifies instance cert
+  pub partition : IsPartition (vertices_of instance) cert.labels
+  pub value : cert.value ≡ worth instance cert.labels
+  pub none_better : (others : List ℕ) → IsPartition (vertices_of instance) others → IsReached instance cert.bound others
+  pub scale : ℕ
+  pub scale_is : pos scale ≡ scale_of instance
+  pub printed_is : printed ≡ check_report (objective_of instance) (vertices_of instance) cert.value cert.bound scale
 
 -- ---- what the files hold
 -- the largest length of a graph file, in bytes
@@ -113,17 +126,24 @@ pub record IsLoaded (file : List ℕ) (told : Option Told) (bytes : List ℕ) : 
   pub held : Holds told file bytes
   pub small : length bytes ≤ max_bytes
 
--- the file of this name is a text of a graph
-pub record IsGraph (file : List ℕ) (told : Option Told) (graph : PaceGraph) : Type 0 where
+-- the file of this name, read in this form, is a text of the instance
+pub record Gives (file : List ℕ) (form : Form) (told : Option Told) (instance : Instance) : Type 0 where
   pub bytes : List ℕ
   pub loaded : IsLoaded file told bytes
-  pub accepted : IsAccepted bytes graph
+  pub read : IsInstance form bytes instance
+
+-- the same, and of no other instance
+pub record GivesOnly (file : List ℕ) (form : Form) (told : Option Told) (instance : Instance) : Type 0 where
+  pub bytes : List ℕ
+  pub loaded : IsLoaded file told bytes
+  pub read : IsInstance form bytes instance
+  pub only : (other : Instance) → IsInstance form bytes other → other ≡ instance
 
 -- ---- what was loaded
 -- the files that a command loads, in the order of its work
 abbrev pub files_of : Command → List (List ℕ)
-files_of (solve file certificate limit) = file ∷ []
-files_of (check file name) = file ∷ name ∷ []
+files_of (solve file form certificate limit) = file ∷ []
+files_of (check file name form) = file ∷ name ∷ []
 
 -- what a folder tells after loads of these names, one after the other
 abbrev pub after_loads : List (List ℕ) → Option Told → Option Told
@@ -135,7 +155,7 @@ after_loads (name ∷ names) told = after_loads names (after_load name told)
 pub record HasLoaded (command : Command) (loads : ℕ) (before after : Option Told) : Type 0 where
   pub few : loads ≤ length (files_of command)
   pub told : after ≡ after_loads (take loads (files_of command)) before
-  pub graph : 2 ≤ loads → (graph : PaceGraph) × IsGraph (graph_file command) before graph
+  pub instance : 2 ≤ loads → (instance : Instance) × Gives (graph_file command) (form_of command) before instance
 
 -- after so many loads the command stopped: no file has changed, and the sink has taken nothing
 pub record StopsAfter (command : Command) (loads : ℕ) (before after : Option Told) (old new : Option (List ℕ)) : Type 0 where
@@ -152,30 +172,27 @@ Stores file (Some name) before after cert =
 
 -- ---- how a command ends
 -- the report of `solve`, at a time at which the certificate is stored
-pub record SolveReports (file : List ℕ) (certificate : Option (List ℕ)) (limit : ℕ) (before after : Option Told) (printed : List ℕ) (status : ℕ)
-    : Type 0 where
-  pub bytes : List ℕ
-  pub loaded : IsLoaded file before bytes
+pub record SolveReports (file : List ℕ) (form : Form) (certificate : Option (List ℕ)) (limit : ℕ) (before after : Option Told) (printed : List ℕ)
+    (status : ℕ) : Type 0 where
+  pub instance : Instance
+  pub given : GivesOnly file form before instance
   pub cert : Certificate
-  pub answer : IsAnswer bytes printed cert limit status
+  pub answer : IsAnswer instance printed cert limit status
   pub stored : Stores file certificate before after cert
 
 -- the report of `check`
-pub record CheckReports (file name : List ℕ) (before after : Option Told) (printed : List ℕ) (status : ℕ) : Type 0 where
-  pub bytes : List ℕ
-  pub loaded : IsLoaded file before bytes
-  pub graph : PaceGraph
-  pub read : IsAccepted bytes graph
-  pub only : (other : PaceGraph) → IsAccepted bytes other → other ≡ graph
+pub record CheckReports (file name : List ℕ) (form : Form) (before after : Option Told) (printed : List ℕ) (status : ℕ) : Type 0 where
+  pub instance : Instance
+  pub given : GivesOnly file form before instance
   pub certificate : List ℕ
   pub held : Holds before name certificate
-  pub proof : IsProofOf graph certificate printed
+  pub proof : IsProofOf instance certificate printed
   pub accepted : status ≡ 0
   pub kept : after ≡ after_loads (file ∷ name ∷ []) before
 
 abbrev pub Reports : Command → Option Told → Option Told → List ℕ → ℕ → Type 0
-Reports (solve file certificate limit) before after printed status = SolveReports file certificate limit before after printed status
-Reports (check file name) before after printed status = CheckReports file name before after printed status
+Reports (solve file form certificate limit) before after printed status = SolveReports file form certificate limit before after printed status
+Reports (check file name form) before after printed status = CheckReports file name form before after printed status
 
 -- status 0 or 1: the sink, where it tells, has taken the command's report, and nothing else
 pub record Prints (command : Command) (before after : Option Told) (old new : Option (List ℕ)) (status : ℕ) : Type 0 where
@@ -194,15 +211,16 @@ pub record WritesPartly (command : Command) (before after : Option Told) (old ne
 -- nothing
 pub record StoresPartly (command : Command) (before after : Option Told) (old new : Option (List ℕ)) : Type 0 where
   pub file : List ℕ
+  pub form : Form
   pub name : List ℕ
   pub limit : ℕ
-  pub command_is : command ≡ solve file (Some name) limit
-  pub bytes : List ℕ
-  pub loaded : IsLoaded file before bytes
+  pub command_is : command ≡ solve file form (Some name) limit
+  pub instance : Instance
+  pub given : GivesOnly file form before instance
   pub printed : List ℕ
   pub status : ℕ
   pub cert : Certificate
-  pub answer : IsAnswer bytes printed cert limit status
+  pub answer : IsAnswer instance printed cert limit status
   pub stored : IsStoredPartly (after_load file before) after name (text cert)
   pub few : CallsWithin (stores_of (length (text cert))) (after_load file before) after
   pub unwritten : new ≡ old
@@ -214,25 +232,31 @@ IsCutShort command before after old new = StoresPartly command before after old 
 
 -- the graph is one, and the other file is the text of no certificate that is valid for it
 abbrev pub IsTurnedDown : Command → Option Told → Type 0
-IsTurnedDown (solve file certificate limit) told = ⊥
-IsTurnedDown (check file name) told = (graph : PaceGraph) × IsGraph file told graph × (bytes : List ℕ) × Holds told name bytes
-    × NoneCertifies graph bytes
+IsTurnedDown (solve file form certificate limit) told = ⊥
+IsTurnedDown (check file name form) told = (instance : Instance) × Gives file form told instance × (bytes : List ℕ) × Holds told name bytes
+    × NoneCertifies instance bytes
 
 -- and this is why
 abbrev pub IsTurnedDownBy : Command → Option Told → Stop → Type 0
-IsTurnedDownBy (solve file certificate limit) told stop = ⊥
-IsTurnedDownBy (check file name) told stop = (graph : PaceGraph) × IsGraph file told graph × (bytes : List ℕ) × Holds told name bytes
-    × NoneCertifies graph bytes × FindsFault graph bytes stop
+IsTurnedDownBy (solve file form certificate limit) told stop = ⊥
+IsTurnedDownBy (check file name form) told stop = (instance : Instance) × Gives file form told instance × (bytes : List ℕ) × Holds told name bytes
+    × NoneCertifies instance bytes × FindsFault instance bytes stop
 
--- the file of this name is no text of a graph of at most 1,000 vertices
-pub record HoldsNoGraph (file : List ℕ) (told : Option Told) : Type 0 where
+-- the file of this name is a text of no instance
+pub record GivesNone (file : List ℕ) (form : Form) (told : Option Told) : Type 0 where
   pub bytes : List ℕ
   pub loaded : IsLoaded file told bytes
-  pub no_graph : (graph : PaceGraph) → IsAccepted bytes graph → ⊥
+  pub none : (instance : Instance) → IsInstance form bytes instance → ⊥
+
+-- and this is why
+pub record IsBarred (file : List ℕ) (form : Form) (told : Option Told) (refusal : Refusal) : Type 0 where
+  pub bytes : List ℕ
+  pub loaded : IsLoaded file told bytes
+  pub refuses : Refuses form bytes refusal
 
 -- the graph's file is none
 abbrev pub IsRefused : Command → Option Told → Type 0
-IsRefused command told = HoldsNoGraph (graph_file command) told
+IsRefused command told = GivesNone (graph_file command) (form_of command) told
 
 -- the graph's file is too long
 abbrev pub IsTooLong : Command → Option Told → Type 0
@@ -240,8 +264,8 @@ IsTooLong command told = HoldsMore told (graph_file command) max_bytes
 
 -- the folder lacks the graph's file, or the graph is one and the folder lacks the certificate's
 abbrev pub IsAbsent : Command → Option Told → Type 0
-IsAbsent (solve file certificate limit) told = Lacks told file
-IsAbsent (check file name) told = Lacks told file ⊎ ((graph : PaceGraph) × IsGraph file told graph × Lacks told name)
+IsAbsent (solve file form certificate limit) told = Lacks told file
+IsAbsent (check file name form) told = Lacks told file ⊎ ((instance : Instance) × Gives file form told instance × Lacks told name)
 
 -- status 3: the certificate is turned down, after the loads of both files
 abbrev pub StopsTurnedDown : Command → Option Told → Option Told → Option (List ℕ) → Option (List ℕ) → Type 0
@@ -266,18 +290,18 @@ StopsTooLong command before after old new = IsTooLong command before × StopsAft
 
 -- status 11: a file is missing, after the load of it
 abbrev pub StopsAbsent : Command → Option Told → Option Told → Option (List ℕ) → Option (List ℕ) → Type 0
-StopsAbsent (solve file certificate limit) before after old new =
-    Lacks before file × StopsAfter (solve file certificate limit) 1 before after old new
-StopsAbsent (check file name) before after old new =
-    (Lacks before file × StopsAfter (check file name) 1 before after old new)
-    ⊎ ((graph : PaceGraph) × IsGraph file before graph × Lacks before name × StopsAfter (check file name) 2 before after old new)
+StopsAbsent (solve file form certificate limit) before after old new =
+    Lacks before file × StopsAfter (solve file form certificate limit) 1 before after old new
+StopsAbsent (check file name form) before after old new =
+    (Lacks before file × StopsAfter (check file name form) 1 before after old new)
+    ⊎ ((instance : Instance) × Gives file form before instance × Lacks before name × StopsAfter (check file name form) 2 before after old new)
 
 -- how a command ends, by the cause
 abbrev pub Ends : Command → Option Told → Option Told → Option (List ℕ) → Option (List ℕ) → Result Bool Stop → Type 0
 Ends command before after old new (Ok optimal) = Prints command before after old new (if optimal then 0 else 1)
 Ends command before after old new (Err (BadText line)) = IsTurnedDownBy command before (BadText line) × StopsAfter command 2 before after old new
 Ends command before after old new (Err (Rejected found)) = IsTurnedDownBy command before (Rejected found) × StopsAfter command 2 before after old new
-Ends command before after old new (Err Refused) = StopsRefused command before after old new
+Ends command before after old new (Err (Refused refusal)) = IsBarred (graph_file command) (form_of command) before refusal × StopsAfter command 1 before after old new
 Ends command before after old new (Err Words) = ⊥
 Ends command before after old new (Err ReadFault) = StopsUnread command before after old new
 Ends command before after old new (Err WriteFault) = IsCutShort command before after old new
@@ -291,22 +315,28 @@ pub record TellsFault (command : Command) (told : Option Told) (old new : Option
   pub found : IsTurnedDownBy command told stop
   pub taken : TakesSome old new (stop_line stop)
 
+-- the graph's file is refused, and err has taken a prefix of the line that says why
+pub record TellsRefusal (command : Command) (told : Option Told) (old new : Option (List ℕ)) : Type 0 where
+  pub refusal : Refusal
+  pub barred : IsBarred (graph_file command) (form_of command) told refusal
+  pub taken : TakesSome old new (stop_line (Refused refusal))
+
 -- ---- which status comes
 -- the two files are a graph and the text of a certificate that is valid for it
 abbrev pub IsProven : Command → Option Told → Type 0
-IsProven (solve file certificate limit) told = ⊥
-IsProven (check file name) told = (graph : PaceGraph) × IsGraph file told graph × (cert : Certificate) × Fits cert × Holds told name (text cert) × Certifies graph cert
+IsProven (solve file form certificate limit) told = ⊥
+IsProven (check file name form) told = (instance : Instance) × Gives file form told instance × (cert : Certificate) × Fits cert × Holds told name (text cert) × Certifies instance cert
 
 -- the graph of `solve` is one
 abbrev pub IsSolvable : Command → Option Told → Type 0
-IsSolvable (solve file certificate limit) told = (graph : PaceGraph) × IsGraph file told graph
-IsSolvable (check file name) told = ⊥
+IsSolvable (solve file form certificate limit) told = (instance : Instance) × Gives file form told instance
+IsSolvable (check file name form) told = ⊥
 
 -- the graph of `solve` is one, and as many branchings are allowed as its vertices have partitions
 abbrev pub IsCompletable : Command → Option Told → Type 0
-IsCompletable (solve file certificate limit) told =
-    (graph : PaceGraph) × IsGraph file told graph × (start : Closed) × IsOpen graph.n start × (count start ≤ limit)
-IsCompletable (check file name) told = ⊥
+IsCompletable (solve file form certificate limit) told =
+    (instance : Instance) × Gives file form told instance × (start : Closed) × IsOpen (vertices_of instance) start × (count start ≤ limit)
+IsCompletable (check file name form) told = ⊥
 
 -- The command and the files decide the status, but where a read fault (7), a write fault (8) or want of memory (9) comes
 -- before it. A graph is solved, and to the end where as many branchings are allowed as its vertices have partitions.

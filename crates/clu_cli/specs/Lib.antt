@@ -1,4 +1,8 @@
+pub mod Forms
 pub mod Headline
+pub mod Instances
+pub mod Lines
+pub mod Options
 pub mod Report
 pub mod Status
 pub mod Steps

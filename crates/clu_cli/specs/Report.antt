@@ -3,13 +3,12 @@ use Rattle.std.specs.Prelude.{ℕ, ℤ, Bool, List, [], ◌∷◌, ◌++◌, cod
 use Rattle.std.specs.List.{flat_map}
 use Rattle.std.specs.Ordering.{int_eq}
 use Rattle.std.specs.Fmt.{decimal, signed_decimal}
-use Rattle.clu_text.specs.Lines.{line_feed, space}
+use Rattle.clu_text.specs.Lines.{space}
 use Rattle.clu_partition.specs.Partition.{block_count_of, blocks_of}
+use Rattle.clu_objective.specs.declared.objective.Objective.{Objective}
+use Rattle.clu_cert.specs.Text.{objective_word}
+use Rattle.clu_cli.specs.Lines.{line}
 use Rattle.clu_cli.specs.declared.report.Facts.{Facts}
-
--- a line and its end
-abbrev pub line : List ℕ → List ℕ
-line text = text ++ line_feed ∷ []
 
 -- the value is the bound
 abbrev pub optimal : Facts → Bool
@@ -22,11 +21,11 @@ verdict facts = if optimal facts then codes "optimal" else codes "gap branchings
 -- the lines before the blocks
 unfoldable pub head : Facts → ℕ → List ℕ
 head facts blocks =
-    line (codes "objective edits")
+    line (codes "objective " ++ objective_word facts.objective)
     ++ line (codes "vertices " ++ decimal facts.vertices)
     ++ line (codes "value " ++ signed_decimal facts.value)
     ++ line (codes "bound " ++ signed_decimal facts.bound)
-    ++ line (codes "scale 1")
+    ++ line (codes "scale " ++ decimal facts.scale)
     ++ line (codes "verdict " ++ verdict facts)
     ++ line (codes "branchings " ++ decimal facts.branchings)
     ++ line (codes "blocks " ++ decimal blocks)
@@ -48,12 +47,12 @@ report facts names labels = head facts (block_count_of labels) ++ flat_map (bloc
 unfoldable pub check_verdict : ℤ → ℤ → List ℕ
 check_verdict value bound = if int_eq value bound then codes "optimal" else codes "gap"
 
-unfoldable pub check_report : ℕ → ℤ → ℤ → List ℕ
-check_report vertices value bound =
+unfoldable pub check_report : Objective → ℕ → ℤ → ℤ → ℕ → List ℕ
+check_report objective vertices value bound scale =
     line (codes "accepted")
-    ++ line (codes "objective edits")
+    ++ line (codes "objective " ++ objective_word objective)
     ++ line (codes "vertices " ++ decimal vertices)
     ++ line (codes "value " ++ signed_decimal value)
     ++ line (codes "bound " ++ signed_decimal bound)
-    ++ line (codes "scale 1")
+    ++ line (codes "scale " ++ decimal scale)
     ++ line (codes "verdict " ++ check_verdict value bound)

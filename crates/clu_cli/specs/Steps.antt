@@ -4,11 +4,13 @@ use Rattle.std.specs.Global.{Vec}
 use Rattle.clu_outside.specs.Counts.{last_count}
 use Rattle.clu_outside.specs.Folder.{Told, Holds, HoldsMore, Lacks, IsStored, IsStoredPartly, CallsWithin, stores_of}
 use Rattle.clu_outside.specs.Sink.{TakesSome, with_bytes}
-use Rattle.clu_pace.specs.Graph.{PaceGraph}
-use Rattle.clu_pace.specs.Pace.{IsAccepted}
 use Rattle.clu_cert.specs.Text.{text}
 use Rattle.clu_cert.specs.declared.certificate.Certificate.{Certificate}
-use Rattle.clu_cli.specs.Headline.{FindsFault, HoldsNoGraph, IsAnswer, IsLoaded, NoneCertifies, max_bytes}
+use Rattle.clu_cli.specs.Headline.{FindsFault, IsBarred, NoneCertifies, max_bytes}
+use Rattle.clu_cli.specs.Instances.{FailsToRead, Refuses}
+use Rattle.clu_cli.specs.declared.form.Form.{Form}
+use Rattle.clu_cli.specs.declared.instance.Instance.{Instance}
+use Rattle.clu_cli.specs.declared.refusal.Refusal.TheVariants.{Graph, Network, Objective}
 use Rattle.clu_cli.specs.declared.stop.Stop.{Stop}
 use Rattle.clu_cli.specs.declared.stop.Stop.TheVariants.{BadText, Rejected, Refused, Words, ReadFault, WriteFault, Memory, TooLong, NoFile}
 
@@ -20,7 +22,7 @@ StopsLoad told name limit ReadFault = Unit {0}
 StopsLoad told name limit Memory = Unit {0}
 StopsLoad told name limit (BadText line) = ⊥
 StopsLoad told name limit (Rejected reject) = ⊥
-StopsLoad told name limit Refused = ⊥
+StopsLoad told name limit (Refused refusal) = ⊥
 StopsLoad told name limit Words = ⊥
 StopsLoad told name limit WriteFault = ⊥
 
@@ -30,30 +32,43 @@ pub record Loads (told : Option Told) (name : List ℕ) (limit : ℕ) (result : 
   pub within : limit < last_count → IfOk result (λ bytes. length bytes.items ≤ limit)
   pub stops : IfErr result (λ stop. StopsLoad told name limit stop)
 
--- why the graph's file gives no graph: it is missing, too long or no text of a graph, or a fault or want of memory came
-abbrev pub StopsGraph : Option Told → List ℕ → Stop → Type 0
-StopsGraph told file NoFile = Lacks told file
-StopsGraph told file TooLong = HoldsMore told file max_bytes
-StopsGraph told file Refused = HoldsNoGraph file told
-StopsGraph told file ReadFault = Unit {0}
-StopsGraph told file Memory = Unit {0}
-StopsGraph told file (BadText line) = ⊥
-StopsGraph told file (Rejected reject) = ⊥
-StopsGraph told file Words = ⊥
-StopsGraph told file WriteFault = ⊥
+-- why bytes are no edge list: one of its lines is refused, or want of memory came
+abbrev pub StopsList : Option ℕ → List ℕ → Stop → Type 0
+StopsList places bytes (Refused (Graph error)) = ⊥
+StopsList places bytes (Refused (Network error)) = FailsToRead places bytes error
+StopsList places bytes (Refused (Objective error)) = ⊥
+StopsList places bytes Memory = Unit {0}
+StopsList places bytes (BadText line) = ⊥
+StopsList places bytes (Rejected reject) = ⊥
+StopsList places bytes Words = ⊥
+StopsList places bytes ReadFault = ⊥
+StopsList places bytes WriteFault = ⊥
+StopsList places bytes TooLong = ⊥
+StopsList places bytes NoFile = ⊥
 
--- the file of this name is a text of this graph alone
-pub record IsOnlyGraph (file : List ℕ) (told : Option Told) (graph : PaceGraph) : Type 0 where
-  pub bytes : List ℕ
-  pub loaded : IsLoaded file told bytes
-  pub accepted : IsAccepted bytes graph
-  pub only : (other : PaceGraph) → IsAccepted bytes other → other ≡ graph
+-- why bytes give no instance: they are refused, or want of memory came
+abbrev pub StopsReading : Form → List ℕ → Stop → Type 0
+StopsReading form bytes (Refused refusal) = Refuses form bytes refusal
+StopsReading form bytes Memory = Unit {0}
+StopsReading form bytes (BadText line) = ⊥
+StopsReading form bytes (Rejected reject) = ⊥
+StopsReading form bytes Words = ⊥
+StopsReading form bytes ReadFault = ⊥
+StopsReading form bytes WriteFault = ⊥
+StopsReading form bytes TooLong = ⊥
+StopsReading form bytes NoFile = ⊥
 
--- the answer is that of the graph's file
-pub record Answers (file : List ℕ) (told : Option Told) (printed : List ℕ) (cert : Certificate) (limit status : ℕ) : Type 0 where
-  pub bytes : List ℕ
-  pub loaded : IsLoaded file told bytes
-  pub answer : IsAnswer bytes printed cert limit status
+-- why the graph's file gives no instance: it is missing, too long or refused, or a fault or want of memory came
+abbrev pub StopsInput : Option Told → List ℕ → Form → Stop → Type 0
+StopsInput told file form NoFile = Lacks told file
+StopsInput told file form TooLong = HoldsMore told file max_bytes
+StopsInput told file form (Refused refusal) = IsBarred file form told refusal
+StopsInput told file form ReadFault = Unit {0}
+StopsInput told file form Memory = Unit {0}
+StopsInput told file form (BadText line) = ⊥
+StopsInput told file form (Rejected reject) = ⊥
+StopsInput told file form Words = ⊥
+StopsInput told file form WriteFault = ⊥
 
 -- why bytes were not stored or written: a fault or want of memory
 abbrev pub StopsWrite : Stop → Type 0
@@ -61,7 +76,7 @@ StopsWrite WriteFault = Unit {0}
 StopsWrite Memory = Unit {0}
 StopsWrite (BadText line) = ⊥
 StopsWrite (Rejected reject) = ⊥
-StopsWrite Refused = ⊥
+StopsWrite (Refused refusal) = ⊥
 StopsWrite Words = ⊥
 StopsWrite ReadFault = ⊥
 StopsWrite TooLong = ⊥
@@ -95,13 +110,13 @@ pub record PrintsBytes {T : Type 0} (old new : Option (List ℕ)) (bytes : List 
   pub stops : IfErr result StopsWrite
 
 -- why a certificate is not accepted: it isn't one that is valid, for what was found, or want of memory came
-abbrev pub StopsCheck : PaceGraph → List ℕ → Stop → Type 0
-StopsCheck graph bytes (BadText line) = NoneCertifies graph bytes × FindsFault graph bytes (BadText line)
-StopsCheck graph bytes (Rejected reject) = NoneCertifies graph bytes × FindsFault graph bytes (Rejected reject)
-StopsCheck graph bytes Memory = Unit {0}
-StopsCheck graph bytes Refused = ⊥
-StopsCheck graph bytes Words = ⊥
-StopsCheck graph bytes ReadFault = ⊥
-StopsCheck graph bytes WriteFault = ⊥
-StopsCheck graph bytes TooLong = ⊥
-StopsCheck graph bytes NoFile = ⊥
+abbrev pub StopsCheck : Instance → List ℕ → Stop → Type 0
+StopsCheck instance bytes (BadText line) = NoneCertifies instance bytes × FindsFault instance bytes (BadText line)
+StopsCheck instance bytes (Rejected reject) = NoneCertifies instance bytes × FindsFault instance bytes (Rejected reject)
+StopsCheck instance bytes Memory = Unit {0}
+StopsCheck instance bytes (Refused refusal) = ⊥
+StopsCheck instance bytes Words = ⊥
+StopsCheck instance bytes ReadFault = ⊥
+StopsCheck instance bytes WriteFault = ⊥
+StopsCheck instance bytes TooLong = ⊥
+StopsCheck instance bytes NoFile = ⊥

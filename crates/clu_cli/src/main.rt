@@ -1,5 +1,5 @@
-//! `clu solve FILE [--certificate NAME] [--branchings N]` and `clu check FILE NAME`: cluster editing with a proved
-//! answer, and with evidence that is checked apart.
+//! `clu solve FILE` and `clu check FILE CERTIFICATE`: cluster editing, correlation clustering and modularity with
+//! a proved answer, and with evidence that is checked apart.
 //!
 //! `run` is the program: its contract says what the printed report, the certificate and each exit
 //! status mean for the bytes of the files. The headline stands in `specs/Headline.antt`; `main` only hands `run`
@@ -8,6 +8,11 @@
 
 mod answer;
 mod checked;
+mod form;
+mod instance;
+mod lines;
+mod options;
+mod refusal;
 mod report;
 mod run;
 mod stop;

@@ -1,23 +1,31 @@
-ghost use Rattle.std.specs.Prelude.{◌≡◌, ◌↔◌, ◌<◌, ◌++◌, length, All, IfOk, IsTrue, OnOk};
-ghost use Rattle.std.specs.Fmt.{signed_decimal};
-ghost use Rattle.std.specs.Ordering.{int_eq};
-ghost use Rattle.clu_partition.specs.Partition.{block_count_of};
-ghost use Rattle.clu_cli.specs.Report.{block_line, check_report, check_verdict, head, line, optimal, report, verdict};
+//! The reports of `solve` and `check`: the facts line by line, and the blocks by the names of their
+//! vertices.
 
+ghost use Rattle.std.specs.Prelude.{◌≡◌, ◌↔◌, ◌<◌, ◌++◌, length, All, IfOk, IsTrue, OnOk};
+ghost use Rattle.std.specs.Ordering.{int_eq};
+ghost use Rattle.clu_cert.specs.Text.{objective_word as word_of};
+ghost use Rattle.clu_partition.specs.Partition.{block_count_of};
+ghost use Rattle.clu_cli.specs.Report.{block_line, check_report, check_verdict, head, optimal, report, verdict};
+
+use crate::lines::{push_count, push_counted, push_line, push_signed, push_word};
 use clu_check::Accepted;
+use clu_objective::Objective;
 use clu_partition::{Names, Partition, Vertex};
-use clu_text::push_number;
 use std::alloc::{AllocError, Global};
 
 /// What a report says beside the blocks.
 #[derive(Clone, Copy, Debug, PartialEq, Eq)]
 pub struct Facts {
+    /// What partitions are judged by.
+    pub objective: Objective,
     /// The number of vertices.
     pub vertices: u32,
-    /// The number of edits of the blocks.
+    /// The objective of the blocks, times the scale.
     pub value: i128,
-    /// No partition has fewer edits.
+    /// No partition is better than this number.
     pub bound: i128,
+    /// The number by which value and bound are multiplied.
+    pub scale: u128,
     /// The number of branchings that were made.
     pub branchings: u64,
 }
@@ -32,25 +40,56 @@ impl Facts {
     }
 }
 
-/// A line of a word, which has its blank, and a text.
-fn push_text(out: &mut Vec<u8>, word: &str, text: &str) -> Result<(), AllocError>
-    ensures { OnOk result (out.new.items ≡ out.old.items ++ line (word.now ++ text.now)) }
+/// The report of a partition, with a line for each block.
+pub fn report_text<N: Names>(
+    alloc: Global,
+    facts: Facts,
+    partition: &Partition,
+    names: &N,
+) -> Result<Vec<u8>, AllocError>
+    requires { length partition.now ≡ length (N.names names.now) }
+    ensures { IfOk result (λ text. text.items ≡ report facts (N.names names.now) partition.now) }
 {
-    out.extend_from_slice(word.as_bytes())?;
-    out.extend_from_slice(text.as_bytes())?;
-    out.push(b'\n')?;
-    Ok(())
+    let mut out = head_text(alloc, facts, partition.block_count())?;
+    let blocks = partition.blocks(alloc)?;
+    for block in &blocks {
+        push_block(&mut out, names, block.as_slice())?;
+    }
+    Ok(out)
 }
 
-/// A line of a word, which has its blank, and a number.
-fn push_field(out: &mut Vec<u8>, word: &str, value: i128) -> Result<(), AllocError>
-    ensures { OnOk result (out.new.items ≡ out.old.items
-        ++ line (word.now ++ signed_decimal value)) }
+/// The report of an accepted certificate of a graph with so many vertices.
+#[tactic(auto, unfolding(crate::specs::Report::check_report))]
+pub fn check_text(
+    alloc: Global,
+    objective: Objective,
+    vertices: u32,
+    accepted: Accepted,
+    scale: u128,
+) -> Result<Vec<u8>, AllocError>
+    ensures { IfOk result (λ text. text.items
+        ≡ check_report objective vertices accepted.value accepted.bound scale) }
 {
-    out.extend_from_slice(word.as_bytes())?;
-    push_number(out, value)?;
-    out.push(b'\n')?;
-    Ok(())
+    let mut out = Vec::new(alloc);
+    push_line(&mut out, "accepted")?;
+    push_word(&mut out, "objective ", objective_word(objective))?;
+    push_count(&mut out, "vertices ", u64::from(vertices))?;
+    push_signed(&mut out, "value ", accepted.value)?;
+    push_signed(&mut out, "bound ", accepted.bound)?;
+    push_counted(&mut out, "scale ", scale)?;
+    push_word(&mut out, "verdict ", check_verdict_text(accepted))?;
+    Ok(out)
+}
+
+/// The word of an objective, as the words of a command have it.
+fn objective_word(objective: Objective) -> &'static str
+    ensures { result.now ≡ word_of objective }
+{
+    match objective {
+        Objective::Edits => "edits",
+        Objective::Agreement => "agreement",
+        Objective::Modularity => "modularity",
+    }
 }
 
 #[tactic(auto, unfolding(crate::specs::Report::verdict))]
@@ -70,14 +109,14 @@ fn head_text(alloc: Global, facts: Facts, blocks: u32) -> Result<Vec<u8>, AllocE
     ensures { IfOk result (λ text. text.items ≡ head facts blocks) }
 {
     let mut out = Vec::new(alloc);
-    push_text(&mut out, "objective ", "edits")?;
-    push_field(&mut out, "vertices ", facts.vertices as i128)?;
-    push_field(&mut out, "value ", facts.value)?;
-    push_field(&mut out, "bound ", facts.bound)?;
-    push_text(&mut out, "scale ", "1")?;
-    push_text(&mut out, "verdict ", verdict_text(facts))?;
-    push_field(&mut out, "branchings ", facts.branchings as i128)?;
-    push_field(&mut out, "blocks ", blocks as i128)?;
+    push_word(&mut out, "objective ", objective_word(facts.objective))?;
+    push_count(&mut out, "vertices ", u64::from(facts.vertices))?;
+    push_signed(&mut out, "value ", facts.value)?;
+    push_signed(&mut out, "bound ", facts.bound)?;
+    push_counted(&mut out, "scale ", facts.scale)?;
+    push_word(&mut out, "verdict ", verdict_text(facts))?;
+    push_count(&mut out, "branchings ", facts.branchings)?;
+    push_count(&mut out, "blocks ", u64::from(blocks))?;
     Ok(out)
 }
 
@@ -109,38 +148,4 @@ fn check_verdict_text(accepted: Accepted) -> &'static str
     ensures { result.now ≡ check_verdict accepted.value accepted.bound }
 {
     if is_tight(accepted) { "optimal" } else { "gap" }
-}
-
-/// The report of an accepted certificate.
-#[tactic(auto, unfolding(crate::specs::Report::check_report))]
-pub fn check_text(alloc: Global, vertices: u32, accepted: Accepted) -> Result<Vec<u8>, AllocError>
-    ensures { IfOk result (λ text. text.items ≡ check_report vertices accepted.value accepted.bound) }
-{
-    let mut out = Vec::new(alloc);
-    push_text(&mut out, "", "accepted")?;
-    push_text(&mut out, "objective ", "edits")?;
-    push_field(&mut out, "vertices ", vertices as i128)?;
-    push_field(&mut out, "value ", accepted.value)?;
-    push_field(&mut out, "bound ", accepted.bound)?;
-    push_text(&mut out, "scale ", "1")?;
-    push_text(&mut out, "verdict ", check_verdict_text(accepted))?;
-    Ok(out)
-}
-
-/// The report of a partition, with a line for each block.
-pub fn report_text<N: Names>(
-    alloc: Global,
-    facts: Facts,
-    partition: &Partition,
-    names: &N,
-) -> Result<Vec<u8>, AllocError>
-    requires { length partition.now ≡ length (N.names names.now) }
-    ensures { IfOk result (λ text. text.items ≡ report facts (N.names names.now) partition.now) }
-{
-    let mut out = head_text(alloc, facts, partition.block_count())?;
-    let blocks = partition.blocks(alloc)?;
-    for block in &blocks {
-        push_block(&mut out, names, block.as_slice())?;
-    }
-    Ok(out)
 }

@@ -1,21 +1,27 @@
-ghost use Rattle.std.specs.Prelude.{◌≡◌, ◌≢◌, ◌↔◌, ◌≤◌, ◌⊎◌, IfErr, IfOk, IfSome, IsErrOf, IsTrue, Some, if◌then◌else◌};
+//! The program: a command is read from the words, done over a folder and a sink, and told to `err` where
+//! it has no report. Its contract is the headline: what each status, file and printed line means.
+
+ghost use Rattle.std.specs.Prelude.{◌≡◌, ◌≢◌, ◌↔◌, ◌≤◌, ◌⊎◌, IfErr, IfOk, IfSome, IsErrOf, IsTrue, Some};
 ghost use Rattle.std.specs.Option.{option_map};
 ghost use Rattle.clu_outside.specs.Counts.{Rose};
 ghost use Rattle.clu_outside.specs.Folder.{after_load};
 ghost use Rattle.clu_outside.specs.Sink.{TakesSome};
 ghost use Rattle.clu_cert.specs.Fits.{Fits};
-ghost use Rattle.clu_cli.specs.Headline.{Prints, StopsTurnedDown, StopsRefused, StopsUnread, StopsUnmade, StopsTooLong, StopsAbsent, IsCutShort, IsDecided, TellsFault, Ends};
+ghost use Rattle.clu_cli.specs.Forms.{HasFewPlaces};
+ghost use Rattle.clu_cli.specs.Headline.{Gives, GivesOnly, Prints as PrintsReport, StopsTurnedDown, StopsRefused, StopsUnread, StopsUnmade, StopsTooLong, StopsAbsent, IsCutShort, IsDecided, TellsFault, TellsRefusal, Ends};
+ghost use Rattle.clu_cli.specs.Instances.{Poses, Prints};
 ghost use Rattle.clu_cli.specs.Status.{end_status, is_status, stop_line, WritesLine};
-ghost use Rattle.clu_cli.specs.Steps.{Answers, IsOnlyGraph, Keeps, Loads, PrintsBytes, StopsGraph};
+ghost use Rattle.clu_cli.specs.Steps.{Keeps, Loads, PrintsBytes, StopsInput};
 ghost use Rattle.clu_cli.specs.Words.{Command as Asks, IsCommand, Asked, solve as solves, check as checks};
 
-use crate::answer::{Answer, answer_of};
+use crate::answer::answer_of;
 use crate::checked::checked;
+use crate::form::Form;
+use crate::instance::{Input, read_input};
 use crate::stop::Stop;
 use crate::words::{Command, read_words};
 use clu_cert::{Certificate, write_cert};
 use clu_outside::{Folder, LoadErr, Sink, WriteErr, store_whole, write_whole};
-use clu_pace::{Graph, PaceError, read_pace};
 use std::alloc::Global;
 
 /// The largest length of a graph file, in bytes.
@@ -43,16 +49,18 @@ fn load<F: Folder>(alloc: Global, folder: &mut F, name: &str, limit: u64) -> Res
     }
 }
 
-/// Loads the graph of a file and solves it with this many branchings at most.
-fn answer_file<F: Folder>(
+/// Loads and reads a graph file of a form.
+fn read_file<F: Folder>(
     alloc: Global,
     folder: &mut F,
     file: &str,
-    branchings: u64,
-) -> Result<Answer, Stop>
-    ensures found { IfOk result (λ answer. Answers file.now (F.told folder.old) answer.text.items
-        answer.certificate branchings (if answer.optimal then 0 else 1)) }
-    ensures stops { IfErr result (λ stop. StopsGraph (F.told folder.old) file.now stop) }
+    form: Form,
+) -> Result<Input, Stop>
+    requires few { HasFewPlaces form }
+    ensures found { IfOk result (λ input. GivesOnly file.now form (F.told folder.old) input.instance) }
+    ensures poses { IfOk result (λ input. Poses input.instance input.problem) }
+    ensures prints { IfOk result (λ input. Prints input.instance input.problem) }
+    ensures stops { IfErr result (λ stop. StopsInput (F.told folder.old) file.now form stop) }
     ensures later { (IsErrOf result Stop.Memory → ⊥)
         → F.told folder.new ≡ after_load file.now (F.told folder.old) }
     ensures memory { IsErrOf result Stop.Memory → (F.told folder.new ≡ F.told folder.old)
@@ -64,32 +72,9 @@ fn answer_file<F: Folder>(
     ensures stores { F.store_faults folder.new ≡ F.store_faults folder.old }
 {
     let bytes = load(alloc, folder, file, MAX_BYTES)?;
-    match answer_of(alloc, &bytes, branchings) {
-        Ok(answer) => Ok(answer),
-        Err(PaceError::Refused) => Err(Stop::Refused),
-        Err(PaceError::Memory) => Err(Stop::Memory),
-    }
-}
-
-/// Loads and reads the graph of a file.
-fn read_file<F: Folder>(alloc: Global, folder: &mut F, file: &str) -> Result<Graph, Stop>
-    ensures found { IfOk result (λ graph. IsOnlyGraph file.now (F.told folder.old) graph) }
-    ensures stops { IfErr result (λ stop. StopsGraph (F.told folder.old) file.now stop) }
-    ensures later { (IsErrOf result Stop.Memory → ⊥)
-        → F.told folder.new ≡ after_load file.now (F.told folder.old) }
-    ensures memory { IsErrOf result Stop.Memory → (F.told folder.new ≡ F.told folder.old)
-        ⊎ (F.told folder.new ≡ after_load file.now (F.told folder.old)) }
-    ensures read_fault { IsErrOf result Stop.ReadFault
-        → Rose (F.load_faults folder.old) (F.load_faults folder.new) }
-    ensures no_read_fault { (IsErrOf result Stop.ReadFault → ⊥)
-        → F.load_faults folder.new ≡ F.load_faults folder.old }
-    ensures stores { F.store_faults folder.new ≡ F.store_faults folder.old }
-{
-    let bytes = load(alloc, folder, file, MAX_BYTES)?;
-    match read_pace(alloc, &bytes) {
-        Ok(graph) => Ok(graph),
-        Err(PaceError::Refused) => Err(Stop::Refused),
-        Err(PaceError::Memory) => Err(Stop::Memory),
+    match read_input(alloc, &bytes, form) {
+        Ok(input) => Ok(input),
+        Err(stop) => Err(stop),
     }
 }
 
@@ -142,12 +127,14 @@ fn print<O: Sink>(out: &mut O, bytes: &[u8]) -> Result<(), Stop>
 fn solve_file<F: Folder, O: Sink>(
     alloc: Global,
     file: &str,
+    form: Form,
     certificate: Option<&str>,
     branchings: u64,
     folder: &mut F,
     out: &mut O,
 ) -> Result<bool, Stop>
-    ensures ends { Ends (solves file.now (option_map (λ name. name.now) certificate.entry) branchings)
+    requires few { HasFewPlaces form }
+    ensures ends { Ends (solves file.now form (option_map (λ name. name.now) certificate.entry) branchings)
         (F.told folder.old) (F.told folder.new) (O.written out.old) (O.written out.new) result }
     ensures asked { IsErrOf result Stop.Words → ⊥ }
     ensures read_fault { IsErrOf result Stop.ReadFault
@@ -162,7 +149,8 @@ fn solve_file<F: Folder, O: Sink>(
     ensures no_write_fault { (IsErrOf result Stop.WriteFault → ⊥)
         → O.faults out.new ≡ O.faults out.old }
 {
-    let answer = answer_file(alloc, folder, file, branchings)?;
+    let input = read_file(alloc, folder, file, form)?;
+    let answer = answer_of(alloc, &input, branchings)?;
     keep(alloc, folder, certificate, &answer.certificate)?;
     print(out, &answer.text)?;
     Ok(answer.optimal)
@@ -174,10 +162,12 @@ fn check_file<F: Folder, O: Sink>(
     alloc: Global,
     file: &str,
     certificate: &str,
+    form: Form,
     folder: &mut F,
     out: &mut O,
 ) -> Result<bool, Stop>
-    ensures ends { Ends (checks file.now certificate.now) (F.told folder.old) (F.told folder.new)
+    requires few { HasFewPlaces form }
+    ensures ends { Ends (checks file.now certificate.now form) (F.told folder.old) (F.told folder.new)
         (O.written out.old) (O.written out.new) result }
     ensures asked { IsErrOf result Stop.Words → ⊥ }
     ensures read_fault { IsErrOf result Stop.ReadFault
@@ -192,9 +182,9 @@ fn check_file<F: Folder, O: Sink>(
     ensures no_write_fault { (IsErrOf result Stop.WriteFault → ⊥)
         → O.faults out.new ≡ O.faults out.old }
 {
-    let graph = read_file(alloc, folder, file)?;
+    let against = read_file(alloc, folder, file, form)?;
     let bytes = load(alloc, folder, certificate, u64::MAX)?;
-    let report = checked(alloc, &graph, &bytes)?;
+    let report = checked(alloc, &against, &bytes)?;
     print(out, &report)?;
     Ok(true)
 }
@@ -227,13 +217,18 @@ fn work<F: Folder, O: Sink>(
         Some(
             Command::Solve {
                 file,
+                form,
                 certificate,
                 branchings,
             },
-        ) => solve_file(alloc, file, certificate, branchings, folder, out),
-        Some(Command::Check { file, certificate }) => {
-            check_file(alloc, file, certificate, folder, out)
-        }
+        ) => solve_file(alloc, file, form, certificate, branchings, folder, out),
+        Some(
+            Command::Check {
+                file,
+                certificate,
+                form,
+            },
+        ) => check_file(alloc, file, certificate, form, folder, out),
         None => Err(Stop::Words),
     }
 }
@@ -277,9 +272,9 @@ pub fn run<F: Folder, O: Sink, E: Sink>(
     out: &mut O,
     err: &mut E,
 ) -> u8
-    // What is printed and stored is what the files give: the blocks, their edits, the bound and the
+    // What is printed and stored is what the files give: the blocks, their objective, the bound and the
     // certificate of `solve`, and the accepted certificate of `check`.
-    ensures answers { result ≤ 1 → Asked words.now (λ command. Prints command (F.told folder.old)
+    ensures answers { result ≤ 1 → Asked words.now (λ command. PrintsReport command (F.told folder.old)
         (F.told folder.new) (O.written out.old) (O.written out.new) result) }
 
     // Each other status has its cause, and says which files were loaded and what else was left: no file
@@ -314,10 +309,12 @@ pub fn run<F: Folder, O: Sink, E: Sink>(
     ensures no_write_fault { result ≢ 8 → O.faults out.new ≡ O.faults out.old }
 
     // What `err` is told: nothing of a report, else the line of the cause; of a certificate that is
-    // turned down the line of what was found.
+    // turned down the line of what was found, and of a refused graph that of the first refusal.
     ensures silent { result ≤ 1 → E.written err.new ≡ E.written err.old }
     ensures line { 2 ≤ result → WritesLine (E.written err.old) (E.written err.new) result }
     ensures found { result ≡ 3 → Asked words.now (λ command. TellsFault command
+        (F.told folder.old) (E.written err.old) (E.written err.new)) }
+    ensures refusal { result ≡ 4 → Asked words.now (λ command. TellsRefusal command
         (F.told folder.old) (E.written err.old) (E.written err.new)) }
 {
     let end = work(alloc, words, folder, out);

@@ -1,6 +1,12 @@
-ghost use Rattle.std.specs.Prelude.{◌≡◌, ◌↔◌, ℕ, [], ◌∷◌, List, IsTrue, MatchOption, Some, codes};
-ghost use Rattle.clu_cli.specs.Words.{AreWords, IsChoice, IsCommand, IsPlain, NamesCertificate, SaysBranchings, Command as Asks, asked_by};
+//! The words of a command: what is to be done, the names of files, and the options behind them.
 
+ghost use Rattle.std.specs.Prelude.{◌≡◌, ◌↔◌, ℕ, [], ◌∷◌, List, Option, IsTrue, MatchOption, codes, map, string_bytes};
+ghost use Rattle.std.specs.Option.{option_map};
+ghost use Rattle.clu_cli.specs.declared.form.Form.{Form as Asked};
+ghost use Rattle.clu_cli.specs.Words.{AllowsBranchings, AreWords, IsCheck, IsCommand, IsNamed, IsPlain, IsSolve, Command as Asks, asked_by};
+
+use crate::form::{Form, read_form};
+use crate::options::read_options;
 use clu_text::read_u64;
 
 /// How many branchings are allowed where the words don't say it.
@@ -13,6 +19,8 @@ pub enum Command<'a> {
     Solve {
         /// The name of the graph file.
         file: &'a str,
+        /// How it is read, and what its partitions are judged by.
+        form: Form,
         /// Under which name the certificate is stored, if it is.
         certificate: Option<&'a str>,
         /// How many branchings are allowed.
@@ -24,16 +32,24 @@ pub enum Command<'a> {
         file: &'a str,
         /// The name of the certificate file.
         certificate: &'a str,
+        /// How the graph file is read, and what its partitions are judged by.
+        form: Form,
     },
 }
 
-/// What an option of `solve` asks for.
-#[derive(Clone, Copy)]
-enum Choice<'a> {
-    /// To store the certificate under this name.
-    Certificate(&'a str),
-    /// To allow this many branchings.
-    Branchings(u64),
+/// Reads the words of a command; `None` where they are of none.
+pub fn read_words(words: &[String]) -> Option<Command<'_>>
+    ensures { MatchOption result ((command : Asks) → IsCommand words.now command → ⊥)
+        (λ command. IsCommand words.now (asked_by command)) }
+{
+    let [command, file, rest @ ..] = words else {
+        return None;
+    };
+    match command.as_str() {
+        "solve" => read_solve(file.as_str(), rest),
+        "check" => read_check(file.as_str(), rest),
+        _ => None,
+    }
 }
 
 /// Whether a word isn't taken for an option.
@@ -46,159 +62,79 @@ fn is_plain(word: &str) -> bool
     }
 }
 
-fn is_solve(word: &str) -> bool
-    ensures { IsTrue result ↔ (word.now ≡ codes "solve") }
-{
-    word == "solve"
-}
-
-fn is_check(word: &str) -> bool
-    ensures { IsTrue result ↔ (word.now ≡ codes "check") }
-{
-    word == "check"
-}
-
-fn is_certificate(word: &str) -> bool
-    ensures { IsTrue result ↔ (word.now ≡ codes "--certificate") }
-{
-    word == "--certificate"
-}
-
-fn is_branchings(word: &str) -> bool
-    ensures { IsTrue result ↔ (word.now ≡ codes "--branchings") }
-{
-    word == "--branchings"
-}
-
-/// Whether the words of `solve` begin so.
-fn is_begun(command: &str, file: &str) -> bool
-    ensures { IsTrue result ↔ ((command.now ≡ codes "solve") × IsPlain file.now) }
-{
-    is_solve(command) && is_plain(file)
-}
-
-/// Reads an option of `solve` and the word behind it.
-fn read_choice<'a>(option: &str, word: &'a str) -> Option<Choice<'a>>
+/// Reads the words behind `solve` and a file.
+fn read_solve<'a>(file: &'a str, rest: &'a [String]) -> Option<Command<'a>>
     ensures { MatchOption result
-        (((name : List ℕ) → NamesCertificate (option.now ∷ word.now ∷ []) (Some name) → ⊥)
-        × ((limit : ℕ) → SaysBranchings (option.now ∷ word.now ∷ []) limit → ⊥))
-        (λ choice. IsChoice option.now word.now choice) }
+        ((form : Asked) (name : Option (List ℕ)) (limit : ℕ)
+        → IsSolve (codes "solve" ∷ file.now ∷ map string_bytes rest.now) file.now form name limit → ⊥)
+        (λ read. AreWords (codes "solve" ∷ file.now ∷ map string_bytes rest.now) (asked_by read)) }
 {
-    if is_certificate(option) && is_plain(word) {
-        Some(Choice::Certificate(word))
-    } else if is_branchings(option) {
-        Some(Choice::Branchings(read_u64(word.as_bytes())?))
-    } else {
-        None
-    }
-}
-
-fn read_two<'a>(command: &str, file: &'a str) -> Option<Command<'a>>
-    ensures { MatchOption result
-        ((asked : Asks) → AreWords (command.now ∷ file.now ∷ []) asked → ⊥)
-        (λ read. AreWords (command.now ∷ file.now ∷ []) (asked_by read)) }
-{
-    if is_begun(command, file) {
-        Some(Command::Solve {
-            file,
-            certificate: None,
-            branchings: USUAL_BRANCHINGS,
-        })
-    } else {
-        None
-    }
-}
-
-fn read_three<'a>(command: &str, file: &'a str, certificate: &'a str) -> Option<Command<'a>>
-    ensures { MatchOption result
-        ((asked : Asks) → AreWords (command.now ∷ file.now ∷ certificate.now ∷ []) asked → ⊥)
-        (λ read. AreWords (command.now ∷ file.now ∷ certificate.now ∷ []) (asked_by read)) }
-{
-    if is_check(command) && is_plain(file) && is_plain(certificate) {
-        Some(Command::Check { file, certificate })
-    } else {
-        None
-    }
-}
-
-fn read_four<'a>(command: &str, file: &'a str, option: &str, word: &'a str) -> Option<Command<'a>>
-    ensures { MatchOption result
-        ((asked : Asks)
-        → AreWords (command.now ∷ file.now ∷ option.now ∷ word.now ∷ []) asked → ⊥)
-        (λ read. AreWords (command.now ∷ file.now ∷ option.now ∷ word.now ∷ [])
-        (asked_by read)) }
-{
-    if !is_begun(command, file) {
+    if !is_plain(file) {
         return None;
     }
-    match read_choice(option, word) {
-        Some(Choice::Certificate(name)) => Some(Command::Solve {
-            file,
-            certificate: Some(name),
-            branchings: USUAL_BRANCHINGS,
-        }),
-        Some(Choice::Branchings(branchings)) => Some(Command::Solve {
-            file,
-            certificate: None,
-            branchings,
-        }),
-        None => None,
-    }
-}
-
-fn read_six<'a>(
-    command: &str,
-    file: &'a str,
-    first: &str,
-    word: &'a str,
-    second: &str,
-    other: &'a str,
-) -> Option<Command<'a>>
-    ensures { MatchOption result
-        ((asked : Asks)
-        → AreWords (command.now ∷ file.now ∷ first.now ∷ word.now ∷ second.now ∷ other.now ∷ []) asked → ⊥)
-        (λ read. AreWords (command.now ∷ file.now ∷ first.now ∷ word.now ∷ second.now ∷ other.now ∷ [])
-        (asked_by read)) }
-{
-    if !is_begun(command, file) {
-        return None;
-    }
-    let (name, branchings) = match (read_choice(first, word)?, read_choice(second, other)?) {
-        (Choice::Certificate(name), Choice::Branchings(branchings)) => (name, branchings),
-        (Choice::Branchings(branchings), Choice::Certificate(name)) => (name, branchings),
-        _ => return None,
-    };
+    let options = read_options(rest)?;
+    let form = read_form(options)?;
+    let certificate = read_name(options.certificate)?;
+    let branchings = read_branchings(options.branchings)?;
     Some(Command::Solve {
         file,
-        certificate: Some(name),
+        form,
+        certificate,
         branchings,
     })
 }
 
-/// Reads the words of a command; `None` where they are of none.
-pub fn read_words(words: &[String]) -> Option<Command<'_>>
-    ensures { MatchOption result ((command : Asks) → IsCommand words.now command → ⊥)
-        (λ command. IsCommand words.now (asked_by command)) }
+/// Reads the words behind `check` and a file.
+fn read_check<'a>(file: &'a str, rest: &'a [String]) -> Option<Command<'a>>
+    ensures { MatchOption result
+        ((name : List ℕ) (form : Asked)
+        → IsCheck (codes "check" ∷ file.now ∷ map string_bytes rest.now) file.now name form → ⊥)
+        (λ read. AreWords (codes "check" ∷ file.now ∷ map string_bytes rest.now) (asked_by read)) }
 {
-    match words {
-        [command, file] => read_two(command.as_str(), file.as_str()),
-        [command, file, certificate] => {
-            read_three(command.as_str(), file.as_str(), certificate.as_str())
+    let [certificate, rest @ ..] = rest else {
+        return None;
+    };
+    let certificate = certificate.as_str();
+    if !is_plain(file) || !is_plain(certificate) {
+        return None;
+    }
+    let options = read_options(rest)?;
+    if options.certificate.is_some() || options.branchings.is_some() {
+        return None;
+    }
+    let form = read_form(options)?;
+    Some(Command::Check {
+        file,
+        certificate,
+        form,
+    })
+}
+
+/// The name under which the certificate is stored, if one is given; `None` where the word is no name.
+fn read_name(word: Option<&str>) -> Option<Option<&str>>
+    ensures { MatchOption result
+        ((name : Option (List ℕ)) → IsNamed (option_map (λ w. w.now) word.entry) name → ⊥)
+        (λ name. IsNamed (option_map (λ w. w.now) word.entry) (option_map (λ n. n.now) name)) }
+{
+    match word {
+        Some(word) => {
+            if is_plain(word) {
+                Some(Some(word))
+            } else {
+                None
+            }
         }
-        [command, file, option, word] => read_four(
-            command.as_str(),
-            file.as_str(),
-            option.as_str(),
-            word.as_str(),
-        ),
-        [command, file, first, word, second, other] => read_six(
-            command.as_str(),
-            file.as_str(),
-            first.as_str(),
-            word.as_str(),
-            second.as_str(),
-            other.as_str(),
-        ),
-        _ => None,
+        None => Some(None),
+    }
+}
+
+/// How many branchings are allowed; `None` where the word is no number.
+fn read_branchings(word: Option<&str>) -> Option<u64>
+    ensures { MatchOption result ((limit : ℕ) → AllowsBranchings (option_map (λ w. w.now) word.entry) limit → ⊥)
+        (λ limit. AllowsBranchings (option_map (λ w. w.now) word.entry) limit) }
+{
+    match word {
+        Some(word) => read_u64(word.as_bytes()),
+        None => Some(USUAL_BRANCHINGS),
     }
 }

@@ -1,12 +1,18 @@
--- The kept lines of a text are those of its numbered lines.
-use Rattle.std.proofs.Common.{◌≡◌, ℕ, ◌+◌, List, [], ◌∷◌, map, filter, refl, ap}
+-- The fields of the numbered kept lines of a text are those of its kept lines.
+use Rattle.std.proofs.Common.{◌≡◌, ℕ, ◌+◌, Bool, true, false, List, [], ◌∷◌, cond, map, filter, refl, ap}
 use Rattle.std.specs.List.{enumerate_from}
 use Rattle.clu_text.specs.Lines.{lines_of, fields_of}
-use Rattle.clu_pace.specs.Pace.{is_kept, kept_lines, kept_of}
+use Rattle.clu_pace.specs.Pace.{is_kept, kept_lines, kept_of, fields_in}
+use Rattle.clu_pace.specs.Refusals.{numbered_kept}
 
-numbered_fields : (a : ℕ) (lines : List (List ℕ)) → map (λ line. fields_of line.1) (enumerate_from a lines) ≡ map fields_of lines
-numbered_fields a [] = refl
-numbered_fields a (line ∷ lines) = ap (λ (ls : List (List (List ℕ))). fields_of line ∷ ls) (numbered_fields (a + 1) lines)
+kept_or_not : (keep : Bool) (line : ℕ × List (List ℕ)) (lines : List (ℕ × List (List ℕ))) (rest : List (List (List ℕ))) → fields_in lines ≡ rest
+    → fields_in (cond keep (line ∷ lines) lines) ≡ cond keep (line.1 ∷ rest) rest
+kept_or_not true line lines rest same = ap (λ (ls : List (List (List ℕ))). line.1 ∷ ls) same
+kept_or_not false line lines rest same = same
 
-pub kept_lines_are : (bytes : List ℕ) → kept_of (enumerate_from 1 (lines_of bytes)) ≡ kept_lines bytes
-kept_lines_are bytes = ap (filter is_kept) (numbered_fields 1 (lines_of bytes))
+kept_fields : (a : ℕ) (lines : List (List ℕ)) → fields_in (kept_of (enumerate_from a lines)) ≡ filter is_kept (map fields_of lines)
+kept_fields a [] = refl
+kept_fields a (line ∷ lines) = kept_or_not (is_kept (fields_of line)) (a, fields_of line) (kept_of (enumerate_from (a + 1) lines)) _ (kept_fields (a + 1) lines)
+
+pub kept_lines_are : (bytes : List ℕ) → fields_in (numbered_kept bytes) ≡ kept_lines bytes
+kept_lines_are bytes = kept_fields 1 (lines_of bytes)

@@ -2,4 +2,5 @@ pub mod Graph
 pub mod Numbers
 pub mod NumberLaws
 pub mod Pace
+pub mod Refusals
 pub mod Table

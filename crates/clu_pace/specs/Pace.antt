@@ -18,9 +18,13 @@ is_kept (first ∷ fields) = not (slice_index first 0 == comment_mark)
 abbrev pub kept_lines : List ℕ → List (List (List ℕ))
 kept_lines bytes = filter is_kept (map fields_of (lines_of bytes))
 
--- the same of numbered lines
-abbrev pub kept_of : List (ℕ × List ℕ) → List (List (List ℕ))
-kept_of lines = filter is_kept (map (λ line. fields_of line.1) lines)
+-- the kept ones of numbered lines, each with its number and its fields
+abbrev pub kept_of : List (ℕ × List ℕ) → List (ℕ × List (List ℕ))
+kept_of lines = filter (λ line. is_kept line.1) (map (λ line. (line.0, fields_of line.1)) lines)
+
+-- the fields of lines that have numbers
+abbrev pub fields_in : List (ℕ × List (List ℕ)) → List (List (List ℕ))
+fields_in lines = map (λ line. line.1) lines
 
 -- the header `p cep n m`
 pub record IsHeader (line : List (List ℕ)) (n m : ℕ) : Type 0 where
@@ -30,17 +34,25 @@ pub record IsHeader (line : List (List ℕ)) (n m : ℕ) : Type 0 where
   pub n_is : IsU32 n_field n
   pub m_is : IsU32 m_field m
 
--- a line of two different numbers from 1 to n, which stand for a pair of vertices, the smaller first
-pub record IsEdgeLine (n : ℕ) (line : List (List ℕ)) (edge : ℕ × ℕ) : Type 0 where
-  pub u : ℕ
-  pub v : ℕ
+-- a line of two numbers
+pub record AreNumbers (line : List (List ℕ)) (u v : ℕ) : Type 0 where
   pub u_field : List ℕ
   pub v_field : List ℕ
   pub words : line ≡ u_field ∷ v_field ∷ []
   pub u_is : IsU32 u_field u
   pub v_is : IsU32 v_field v
-  pub u_in : (0 < u) × (u ≤ n)
-  pub v_in : (0 < v) × (v ≤ n)
+
+-- a number from 1 to n
+abbrev pub IsVertex : ℕ → ℕ → Type 0
+IsVertex n u = (0 < u) × (u ≤ n)
+
+-- a line of two different numbers from 1 to n, which stand for a pair of vertices, the smaller first
+pub record IsEdgeLine (n : ℕ) (line : List (List ℕ)) (edge : ℕ × ℕ) : Type 0 where
+  pub u : ℕ
+  pub v : ℕ
+  pub numbers : AreNumbers line u v
+  pub u_in : IsVertex n u
+  pub v_in : IsVertex n v
   pub differ : u ≢ v
   pub edge_is : edge ≡ (min u v - 1, max u v - 1)
 

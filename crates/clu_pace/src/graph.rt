@@ -1,3 +1,6 @@
+//! A graph as its list of edges, with a table of all pairs beside it that finds one at once. The table's
+//! cell of two vertices says whether they are adjacent; only a new edge is added, and it sets both cells.
+
 ghost use Rattle.std.specs.Prelude.{◌≡◌, ◌≤◌, ◌<◌, ◌+◌, ◌*◌, ◌++◌, [], ◌∷◌, ℕ, true, false, length, IfOk, OnOk, OnErr, slice_index_or, slice_set};
 ghost use Rattle.clu_pace.specs.Graph.{are_adjacent, AreWithin, NoneTwice};
 ghost use Rattle.clu_pace.specs.Numbers.{graph_names};

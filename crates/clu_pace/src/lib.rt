@@ -9,6 +9,8 @@ mod error;
 mod graph;
 mod numbers;
 mod reader;
+#[cfg(test)]
+mod tests;
 
 pub use error::PaceError;
 pub use graph::Graph;

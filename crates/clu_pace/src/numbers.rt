@@ -1,3 +1,6 @@
+//! The names of a graph's vertices: the decimal numbers from 1, so none is kept anywhere. A name is
+//! read as a number, and written from its four digits.
+
 ghost use Rattle.std.specs.Prelude.{◌≡◌, ◌≤◌, ◌<◌, take};
 ghost use Rattle.std.specs.Fmt.{decimal};
 

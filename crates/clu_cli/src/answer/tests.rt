@@ -2,6 +2,9 @@ ghost use Rattle.std.specs.Prelude.{IfOk};
 ghost use Rattle.clu_cert.specs.Fits.{Fits};
 
 use super::*;
+use crate::form::Form;
+use crate::instance::read_input;
+use crate::stop::Stop;
 use clu_cert::write_cert;
 use std::process::Abort;
 use std::test::Fail;
@@ -31,10 +34,11 @@ const CASES: [Case; 3] = [
     },
 ];
 
-fn certificate_of(alloc: Global, graph: &[u8], branchings: u64) -> Result<Certificate, PaceError>
+fn certificate_of(alloc: Global, graph: &[u8], branchings: u64) -> Result<Certificate, Stop>
     ensures { IfOk result (λ cert. Fits cert) }
 {
-    let answer = answer_of(alloc, graph, branchings)?;
+    let input = read_input(alloc, graph, Form::Edits)?;
+    let answer = answer_of(alloc, &input, branchings)?;
     Ok(answer.certificate)
 }
 

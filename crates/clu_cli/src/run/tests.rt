@@ -15,6 +15,15 @@ const TRIANGLE_REPORT: &str =
 const ALONE_REPORT: &str =
     "objective edits\nvertices 1\nvalue 0\nbound 0\nscale 1\nverdict optimal\nbranchings 0\nblocks 1\nblock 1\n";
 
+const SAMPLE_REPORT: &str =
+    "objective agreement\nvertices 3\nvalue 275\nbound 275\nscale 100\nverdict optimal\nbranchings 1\nblocks 2\nblock a b\nblock c\n";
+
+const SELF_REPORT: &str =
+    "objective modularity\nvertices 1\nvalue 0\nbound 0\nscale 4\nverdict optimal\nbranchings 0\nblocks 1\nblock a\n";
+
+const DIGITS_REPORT: &str =
+    "objective agreement\nvertices 2\nvalue 12\nbound 12\nscale 100\nverdict optimal\nbranchings 1\nblocks 1\nblock a b\n";
+
 const STAR_REPORT: &str =
     "objective edits\nvertices 4\nvalue 3\nbound 1\nscale 1\nverdict gap branchings\nbranchings 0\nblocks 4\nblock 1\nblock 2\nblock 3\nblock 4\n";
 
@@ -29,11 +38,16 @@ const STAR_CERT: &str =
     "clucert 1\nobjective edits\nvertices 4\nvalue 3\nbound 1\nblocks 1 2 3 4\nsteps 0\nparts 1\npart 1 2 3 4\nitems 1\nleaf 1 1\nrow 1 1 / 2 3\nend\n";
 
 /// The files of each case: graphs, the star's certificate, and altered copies of it.
-const FILES: [(&str, &str); 13] = [
+const FILES: [(&str, &str); 18] = [
     ("path", "p cep 3 2\n1 2\n2 3\n"),
     ("triangle", "p cep 3 3\n1 2\n1 3\n2 3\n"),
     ("alone", "p cep 1 0\n"),
     ("loop", "p cep 3 1\n2 2\n"),
+    ("few", "p cep 3 2\n1 2\n"),
+    ("sample", "# sample\r\na\tb\t0.5\r\nb a 1.25\r\nb c -1\r\n"),
+    ("self", "a a\n"),
+    ("names", "a\nb\n"),
+    ("digits", "a b 0.123456789012\n"),
     ("star", "p cep 4 3\n1 2\n1 3\n1 4\n"),
     ("valid", STAR_CERT),
     (
@@ -75,7 +89,7 @@ struct Case {
     err: &'static str,
 }
 
-const CASES: [Case; 9] = [
+const CASES: [Case; 15] = [
     Case {
         words: &["solve", "alone"],
         failing: [&[], &[], &[]],
@@ -114,7 +128,78 @@ const CASES: [Case; 9] = [
         loads: &["loop"],
         status: 4,
         out: "",
-        err: "clu: graph Refused\n",
+        err: "clu: graph Loop line 2\n",
+    },
+    Case {
+        words: &["solve", "few"],
+        failing: [&[], &[], &[]],
+        loads: &["few"],
+        status: 4,
+        out: "",
+        err: "clu: graph EdgeCount 2 1\n",
+    },
+    Case {
+        words: &[
+            "solve",
+            "sample",
+            "--branchings",
+            "9",
+            "--objective",
+            "agreement",
+        ],
+        failing: [&[], &[], &[]],
+        loads: &["sample"],
+        status: 0,
+        out: SAMPLE_REPORT,
+        err: "",
+    },
+    Case {
+        words: &["solve", "self", "--format", "edges"],
+        failing: [&[], &[], &[]],
+        loads: &["self"],
+        status: 0,
+        out: SELF_REPORT,
+        err: "",
+    },
+    Case {
+        words: &["solve", "names", "--objective", "modularity"],
+        failing: [&[], &[], &[]],
+        loads: &["names"],
+        status: 4,
+        out: "",
+        err: "clu: graph NoWeight\n",
+    },
+    Case {
+        words: &[
+            "solve",
+            "digits",
+            "--objective",
+            "agreement",
+            "--format",
+            "edges",
+        ],
+        failing: [&[], &[], &[]],
+        loads: &["digits"],
+        status: 4,
+        out: "",
+        err: "clu: graph BadWeight line 1\n",
+    },
+    Case {
+        words: &[
+            "solve",
+            "digits",
+            "--places",
+            "2",
+            "--objective",
+            "agreement",
+            "--branchings",
+            "1",
+        ],
+        failing: [&[], &[], &[]],
+        loads: &["digits"],
+        status: 0,
+        out: DIGITS_REPORT,
+        err: "",
     },
     Case {
         words: &["solve", "path"],
@@ -151,7 +236,7 @@ const CASES: [Case; 9] = [
 ];
 
 /// Words of no command.
-const WRONG_WORDS: [&[&str]; 14] = [
+const WRONG_WORDS: [&[&str]; 24] = [
     &[],
     &["solve"],
     &["solve", "-path"],
@@ -173,6 +258,23 @@ const WRONG_WORDS: [&[&str]; 14] = [
     &["solve", "star", "--branchings", "1x"],
     &["solve", "star", "--branchings", "18446744073709551616"],
     &["solve", "star", "--branchings", "1", "--branchings", "1"],
+    &[
+        "solve",
+        "star",
+        "--format",
+        "pace",
+        "--objective",
+        "modularity",
+    ],
+    &["solve", "star", "--objective", "edits", "--format", "edges"],
+    &["solve", "star", "--format", "gml"],
+    &["solve", "star", "--objective", "cuts"],
+    &["solve", "star", "--places", "2"],
+    &["solve", "star", "--format", "edges", "--places", "10"],
+    &["solve", "star", "--certificate", "-new"],
+    &["check", "star", "valid", "--branchings", "1"],
+    &["check", "star", "valid", "--certificate", "new"],
+    &["check", "star", "valid", "--places", "2"],
 ];
 
 /// The star and a certificate that is checked against it.
@@ -239,7 +341,7 @@ const CHECKS: [Case; 11] = [
         loads: &["loop"],
         status: 4,
         out: "",
-        err: "clu: graph Refused\n",
+        err: "clu: graph Loop line 2\n",
     },
     Case {
         words: &["check", "star", "valid"],

@@ -1,9 +1,9 @@
-use Rattle.std.proofs.Common.{ap, arith, Err}
-use Rattle.clu_cli.proofs.Ends.{holds_no_graph}
+use Rattle.std.proofs.Common.{arith}
+use Rattle.clu_cli.proofs.Ends.{gives_only}
 use Rattle.clu_cli.proofs.run.read_file.Goals as goal
 
-pub returns-in-Err-Refused-clause-stops : goal.returns-in-Err-Refused-clause-stops
-returns-in-Err-Refused-clause-stops g c =
+pub returns-in-Ok-clause-found : goal.returns-in-Ok-clause-found
+returns-in-Ok-clause-found g c =
     let tells = c.in_ok-bytes.ensures.tells in
-    holds_no_graph c.args.file.now (g.F.Folder.told c.args.folder.now) c.in_ok-bytes.bytes.items c.deref.result.now tells.found (tells.within (omega arith)) c.deref.ensures.value
-    (c.in-Err-Refused.ensures.refused (ap Err c.in-Err-Refused.field-0-is))
+    gives_only c.args.file.now c.args.form (g.F.Folder.told c.args.folder.now) c.in_ok-bytes.bytes.items c.deref.result.now c.in-Ok.input.instance tells.found (tells.within (omega arith))
+    c.deref.ensures.value c.in-Ok.ensures.read

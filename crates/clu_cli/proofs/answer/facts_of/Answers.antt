@@ -1,0 +1,8 @@
+use Rattle.std.proofs.Common.{◌≡◌, ℕ, pos, sym, subst}
+use Rattle.clu_cli.specs.Instances.{scale_of}
+use Rattle.clu_cli.proofs.InstanceLaws.{scale_posed}
+use Rattle.clu_cli.proofs.answer.facts_of.Goals as goal
+
+pub returns-clause-scale : goal.returns-clause-scale
+returns-clause-scale c =
+    subst (λ (n : ℕ). pos n ≡ scale_of c.args.input.now.instance) (sym c.scale_of.ensures) (scale_posed c.args.input.now.instance c.args.input.now.problem c.requires)
