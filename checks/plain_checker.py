@@ -1,16 +1,19 @@
 #!/usr/bin/env python3
-"""A checker of certificates for cluster editing, in plain Python by `docs/FORMATS.md` alone.
+"""A checker of certificates for cluster editing, agreement and modularity, in plain Python by `docs/FORMATS.md` alone.
 
-usage: checks/plain_checker.py GRAPH CERTIFICATE
+usage: checks/plain_checker.py GRAPH CERTIFICATE [--format pace|edges] [--objective edits|agreement|modularity] [--places K]
 
 It sums over sets of vertices by the conditions themselves and shares nothing with the program, so it is slow, and
-`checks/certificates` compares the program's answers with its own. Called by itself it prints what `clu check` is to print for
-these files, of which the graph must be good, and ends with its status.
+`checks/certificates` and `checks/networks` compare the program's answers with its own. Called by itself it prints what
+`clu check` is to print for these files and good words, and ends with its status. `plain_graphs.py` beside it reads the graph.
 """
 
 import re
 import sys
 from itertools import combinations
+
+sys.dont_write_bytecode = True
+from plain_graphs import Refused, problem_of
 
 CAPPED = 2**88
 WHOLE = re.compile(rb"0|-?[1-9][0-9]*")
@@ -152,7 +155,7 @@ def read_text(text):
         return ("reduce", *step_of(line))
 
     next_line(constant(b"clucert 1"))
-    cert = {"objective": next_line(objective)}
+    cert = {"objective": next_line(objective).decode()}
     n = next_line(lambda line: counted(line, b"vertices", 1000))
     cert["value"] = next_line(lambda line: whole(fields_of(line, b"value", 2)[0]))
     cert["bound"] = next_line(lambda line: whole(fields_of(line, b"bound", 2)[0]))
@@ -325,20 +328,9 @@ def upper_of(state, items, earlier, part):
     return max(bounds)
 
 
-def weights(edges):
-    edge_set = set(edges)
-    return lambda u, v: 0 if u == v else 1 if (min(u, v), max(u, v)) in edge_set else -1
-
-
-def edits_of(n, edges, labels):
-    inside = sum(labels[u] == labels[v] for u, v in combinations(range(n), 2))
-    kept = sum(labels[u] == labels[v] for u, v in edges)
-    return len(edges) - kept + inside - kept
-
-
-def check_steps(cert, n, weight):
+def check_steps(cert, problem):
     """The state after the root steps."""
-    state = State(weight, list(range(n)))
+    state = State(problem.weight, list(range(problem.n)))
     for number, step in enumerate(cert["steps"], 1):
         if not state.holds(*step):
             raise Rejected(f"5 item {number}", "a step")
@@ -366,68 +358,74 @@ def check_parts(cert, n, state):
         raise Rejected(f"6 part {len(cert['proofs']) + 1}", "a vertex in no part")
 
 
-def proved_bound(cert, edges, state):
-    """The printed number that the items of all parts prove."""
+def proved_upper(cert, state):
+    """What the items of all parts prove of the weight inside blocks, before the cap."""
     total, earlier = 0, len(cert["steps"])
     for number, (part, items) in enumerate(cert["proofs"], 1):
         total += upper_of(state.within(part, cert["steps"]), items, earlier, number)
         earlier += len(items)
-    return len(edges) - min(total, CAPPED)
+    return total
 
 
-def check_cert(n, edges, cert):
-    """What is wrong first with a certificate for cluster editing without rules, as `Rejected`."""
+def proved_bound(cert, problem, state):
+    """The printed number that the items prove."""
+    return problem.printed(min(proved_upper(cert, state), CAPPED))
+
+
+def check_cert(problem, cert):
+    """What is wrong first with a certificate for a problem without rules, as `Rejected`."""
     labels = cert["labels"]
-    if cert["objective"] != b"edits":
+    if cert["objective"] != problem.objective:
         raise Rejected("1", "the objective")
-    if len(labels) != n:
+    if len(labels) != problem.n:
         raise Rejected("1", "the number of labels")
     new = 0
     for label in labels:
         if label > new:
             raise Rejected("2", "the labels' order")
         new = max(new, label + 1)
-    found = edits_of(n, edges, labels)
+    found = problem.value_of(labels)
     if found != cert["value"]:
         raise Rejected(f"4 {found}", "the value")
-    state = check_steps(cert, n, weights(edges))
-    check_parts(cert, n, state)
-    best = proved_bound(cert, edges, state)
-    is_capped = best == len(edges) - CAPPED
-    if cert["bound"] > best:
+    state = check_steps(cert, problem)
+    check_parts(cert, problem.n, state)
+    upper = proved_upper(cert, state)
+    best, is_capped = problem.printed(min(upper, CAPPED)), upper >= CAPPED
+    if problem.is_better(best, cert["bound"]):
         raise Rejected(f"9 {best}", "the capped bound" if is_capped else "the bound")
     return "a capped bound" if is_capped else "optimal" if cert["value"] == cert["bound"] else "gap"
 
 
-def expected(n, edges, text):
+def expected(problem, text):
     """What `check` is to answer: the status, out and err; and the answer's name with its cause."""
     try:
         cert = read_text(text)
-        cause = check_cert(n, edges, cert)
+        cause = check_cert(problem, cert)
     except BadText as error:
         return (3, b"", b"clu: certificate line %d\n" % error.line), ("certificate", error.cause)
     except Rejected as error:
         answer = f"rejected {error.words.split(' ')[0]}"
         return (3, b"", f"clu: rejected {error.words}\n".encode()), (answer, error.cause)
     verdict = "optimal" if cert["value"] == cert["bound"] else "gap"
-    lines = ["accepted", "objective edits", f"vertices {n}", f"value {cert['value']}",
-             f"bound {cert['bound']}", "scale 1", f"verdict {verdict}"]
+    lines = ["accepted", f"objective {problem.objective}", f"vertices {problem.n}", f"value {cert['value']}",
+             f"bound {cert['bound']}", f"scale {problem.scale}", f"verdict {verdict}"]
     return (0, "".join(line + "\n" for line in lines).encode(), b""), ("accepted", cause)
 
 
-def read_graph(text):
-    """The number of vertices and the edges of a good graph file."""
-    lines = [line.split() for line in text.split(b"\n")]
-    (n, _), *edges = [[int(field) for field in line[-2:]] for line in lines if line and not line[0].startswith(b"c")]
-    return n, sorted((min(u, v) - 1, max(u, v) - 1) for u, v in edges)
+def answer(graph, certificate, words):
+    """The status, out and err for the bytes of these files and good options."""
+    try:
+        return expected(problem_of(graph, *words), certificate)[0]
+    except Refused as error:
+        return 4, b"", error.err
 
 
 def main():
-    if len(sys.argv) != 3:
+    if len(sys.argv) < 3 or len(sys.argv) % 2 == 0:
         print(__doc__, file=sys.stderr)
         return 6
     with open(sys.argv[1], "rb") as graph, open(sys.argv[2], "rb") as certificate:
-        (status, out, err), _ = expected(*read_graph(graph.read()), certificate.read())
+        status, out, err = answer(graph.read(), certificate.read(), sys.argv[3:])
     sys.stdout.write(out.decode())
     sys.stderr.write(err.decode())
     return status
