@@ -1,4 +1,5 @@
-//! Why bytes are no edge list: the first line that fails with the first of its causes.
+//! Why bytes are no edge list: the first line that fails, with the first of its causes in a fixed order, so each bad
+//! text has one answer.
 
 ghost use Rattle.std.specs.Prelude.{◌≡◌};
 ghost use Rattle.clu_network.specs.declared.error.NetError.TheVariants.{Memory};

@@ -14,8 +14,6 @@ mod names;
 mod naming;
 mod network;
 mod reader;
-#[cfg(test)]
-mod tests;
 
 pub use error::NetError;
 pub use network::{NetLine, Network};

@@ -1,4 +1,5 @@
-//! Why a network has no problem of an objective.
+//! Why a network has no problem of an objective: a weight below 0, no weight at all, or a total past the limit that
+//! keeps all sums within 128 bits. The first of these is named.
 
 ghost use Rattle.std.specs.Prelude.{◌≡◌};
 ghost use Rattle.clu_objective.specs.declared.error.ObjError.TheVariants.{Memory};

@@ -13,8 +13,6 @@ mod modularity;
 mod networks;
 mod objective;
 mod problem;
-#[cfg(test)]
-mod tests;
 
 pub use edits::pairs_of_graph;
 pub use error::ObjError;

@@ -1,7 +1,6 @@
-//! Modularity after Newman and Girvan (2004), as pair weights of a clique partitioning problem
-//! (Brandes and others 2008), scaled by the square of twice the total weight so that each number is
-//! whole. Two passes over the lines and one over the pairs; the limit on the total keeps each product
-//! within 128 bits.
+//! Modularity (Newman and Girvan 2004) as pair weights of clique partitioning (Brandes and others 2008), times the
+//! square of twice the total weight, so that each number is whole. Two passes over the lines and one over the pairs;
+//! the limit on the total keeps each product within 128 bits.
 
 ghost use Rattle.std.specs.Prelude.{◌≡◌, ◌≢◌, ◌<◌, ◌≤◌, ◌^◌, ◌*◌, ◌+ℤ◌, ◌-ℤ◌, ◌*ℤ◌, ◌≤ℤ◌, ℕ, None, List, All, IfOk, length, pos, unsigned_abs, slice_index_or, ◌==◌};
 ghost use Rattle.clu_partition.specs.Pairs.{weight_of, IsTable};

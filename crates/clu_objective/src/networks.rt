@@ -1,4 +1,5 @@
-//! The two objectives of a network, each with its limits.
+//! The two objectives of a network, each with its limits: agreement (Bansal, Blum and Chawla 2004) and modularity
+//! (Newman and Girvan 2004). Edits ask for a graph, so they can't come here.
 
 ghost use Rattle.std.specs.Prelude.{◌≡◌, ◌≢◌};
 ghost use Rattle.clu_objective.specs.Agreement.{AnswersAgreement};

@@ -1,4 +1,5 @@
-//! What partitions are judged by.
+//! What a partition is judged by: cluster editing, correlation clustering or modularity. All three are weights of
+//! pairs inside blocks (Grötschel and Wakabayashi 1989), so one search serves them all.
 
 /// What a partition is judged by.
 #[derive(Clone, Copy, Debug, PartialEq, Eq)]

@@ -1,3 +1,6 @@
+//! A folder of files as a trait: what a load, a create and an append do, and when each answer comes, over any folder.
+//! Sound over the system too, since a folder says what it holds only where it tells it, and each fault raises a count.
+
 ghost use Rattle.std.specs.Prelude.{◌≡◌, ℕ, Option};
 ghost use Rattle.clu_outside.specs.declared.folder.LoadErr.TheVariants.{Memory};
 ghost use Rattle.clu_outside.specs.Folder.{Told, LoadTells, LoadCause, CreateTells, AppendTells};

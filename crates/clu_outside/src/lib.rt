@@ -6,6 +6,8 @@
 //! `specs/Sink.antt` and `specs/Counts.antt`.
 #![tactic(auto)]
 
+#[cfg(test)]
+mod fixtures;
 mod folder;
 mod memory_folder;
 mod memory_sink;

@@ -1,3 +1,6 @@
+//! A folder in memory, for tests: it tells its whole content and the names of its loads, and the calls that are
+//! listed meet a fault, and no others. A name is noted before its load, so the note of a load that was made is there.
+
 ghost use Rattle.std.specs.Prelude.{◌≡◌, ◌↔◌, ◌⊎◌, [], ◌∷◌, ◌++◌, Some, None, OnOk, OnErr, IfErr, IsErr, IsErrOf, IsTrue, is_ok, if◌then◌else◌, MatchOption, Contains, map, string_bytes};
 ghost use Rattle.clu_outside.specs.Counts.{next_count};
 ghost use Rattle.clu_outside.specs.Folder.{LoadTells, LoadCause, CreateTells, AppendTells, SameElsewhere, bytes_under};
@@ -222,90 +225,122 @@ mod tests {
     use super::*;
     use std::test::Fail;
 
+    /// A folder whose file `g` has the bytes `abc`, and whose call of this number, from 1, fails.
+    fn with_a_file(alloc: Global, failing: u64) -> Result<MemoryFolder, AllocError> {
+        let mut folder = MemoryFolder::new(alloc, [failing].to_vec(alloc)?);
+        folder.put("g", b"abc")?;
+        Ok(folder)
+    }
+
+    /// Whether the folder has a file of that name with exactly these bytes.
+    fn holds(folder: &MemoryFolder, name: &str, bytes: &str) -> bool {
+        match folder.get(name) {
+            Some(held) => held == bytes.as_bytes(),
+            None => false,
+        }
+    }
+
+    /// Whether these are the folder's counts: of calls, of load faults and of store faults.
+    fn counts(folder: &MemoryFolder, calls: u64, loads: u64, stores: u64) -> bool {
+        folder.calls == calls && folder.load_faults == loads && folder.store_faults == stores
+    }
+
+    /// Whether a load answers the bytes `abc`.
+    fn loads(folder: &mut MemoryFolder, name: &str, limit: u64) -> bool {
+        match folder.load(folder.alloc, name, limit) {
+            Ok(bytes) => bytes.as_slice() == b"abc".as_slice(),
+            Err(_) => false,
+        }
+    }
+
+    /// Whether a load answers this error.
+    fn refuses(folder: &mut MemoryFolder, name: &str, limit: u64, want: LoadErr) -> bool {
+        match folder.load(folder.alloc, name, limit) {
+            Ok(_) => false,
+            Err(error) => error == want,
+        }
+    }
+
+    fn loads_within_a_limit(folder: &mut MemoryFolder) -> bool {
+        loads(folder, "g", 3)
+            && refuses(folder, "g", 2, LoadErr::TooLong)
+            && refuses(folder, "h", 2, LoadErr::Missing)
+            && counts(folder, 3, 0, 0)
+    }
+
     #[test]
     fn a_load_has_a_limit_and_a_cause(rt: HostRuntime) -> Result<(), Fail> {
-        let alloc = rt.alloc();
-        let mut folder = MemoryFolder::new(alloc, Vec::new(alloc));
-        folder.put("g", b"abc")?;
-        let bytes = folder.load(alloc, "g", 3)?;
-        assert_eq!(rt; bytes.as_slice(), b"abc".as_slice());
-        assert_eq!(rt; folder.load(alloc, "g", 2).err(), Some(LoadErr::TooLong));
-        assert_eq!(rt; folder.load(alloc, "h", 2).err(), Some(LoadErr::Missing));
-        assert_eq!(rt; folder.load_faults, 0);
-        assert_eq!(rt; folder.calls, 3);
+        assert!(rt; loads_within_a_limit(&mut with_a_file(rt.alloc(), 0)?));
         Ok(())
+    }
+
+    /// Whether the load of this index has this name.
+    fn is_noted(folder: &MemoryFolder, index: usize, name: &str) -> bool {
+        match folder.loads().get(index) {
+            Some(noted) => noted.as_str() == name,
+            None => false,
+        }
+    }
+
+    fn notes_each_load(folder: &mut MemoryFolder) -> bool {
+        loads(folder, "g", 3)
+            && is_noted(folder, 0, "g")
+            && refuses(folder, "g", 3, LoadErr::Failed)
+            && is_noted(folder, 1, "g")
+            && refuses(folder, "h", 3, LoadErr::Missing)
+            && is_noted(folder, 2, "h")
+            && folder.create("h") == Ok(())
+            && folder.append("h", b"ab") == Ok(())
+            && folder.loads().len() == 3
     }
 
     #[test]
     fn loads_are_noted_in_their_order(rt: HostRuntime) -> Result<(), Fail> {
-        let alloc = rt.alloc();
-        let mut folder = MemoryFolder::new(alloc, [2].to_vec(alloc)?);
-        folder.put("g", b"abc")?;
-        for (index, name) in [(0, "g"), (1, "g"), (2, "h")] {
-            let _ = folder.load(alloc, name, 3);
-            let noted = folder.loads().get(index).ok_or("a name")?;
-            assert!(rt; noted.as_str() == name);
-        }
-        assert_eq!(rt; folder.create("h"), Ok(()));
-        assert_eq!(rt; folder.append("h", b"ab"), Ok(()));
-        assert_eq!(rt; folder.loads().len(), 3);
+        assert!(rt; notes_each_load(&mut with_a_file(rt.alloc(), 2)?));
         Ok(())
     }
 
-    #[test]
-    fn a_listed_load_fails(rt: HostRuntime) -> Result<(), Fail> {
-        let alloc = rt.alloc();
-        let mut folder = MemoryFolder::new(alloc, [2].to_vec(alloc)?);
-        folder.put("g", b"abc")?;
-        assert_eq!(rt; folder.load(alloc, "g", u64::MAX).is_ok(), true);
-        assert_eq!(rt;
-            folder.load(alloc, "g", u64::MAX).err(),
-            Some(LoadErr::Failed)
-        );
-        assert_eq!(rt; folder.load(alloc, "g", u64::MAX).is_ok(), true);
-        assert_eq!(rt; folder.load_faults, 1);
-        assert_eq!(rt; folder.get("g").ok_or("g")?, b"abc".as_slice());
-        assert_eq!(rt; folder.get("h").is_none(), true);
-        Ok(())
+    fn fails_at_the_second_load(folder: &mut MemoryFolder) -> bool {
+        loads(folder, "g", u64::MAX)
+            && refuses(folder, "g", u64::MAX, LoadErr::Failed)
+            && loads(folder, "g", u64::MAX)
+            && counts(folder, 3, 1, 0)
+            && holds(folder, "g", "abc")
+            && folder.get("h").is_none()
+    }
+
+    fn fails_at_the_second_create(folder: &mut MemoryFolder) -> bool {
+        folder.create("h") == Ok(())
+            && folder.create("g") == Err(WriteErr::Failed)
+            && holds(folder, "h", "")
+            && holds(folder, "g", "abc")
+            && folder.create("g") == Ok(())
+            && holds(folder, "g", "")
+            && counts(folder, 3, 0, 1)
+    }
+
+    fn fails_at_the_second_append(folder: &mut MemoryFolder) -> bool {
+        folder.create("g") == Ok(())
+            && folder.append("g", b"ab") == Ok(())
+            && holds(folder, "g", "ab")
+            && counts(folder, 2, 0, 0)
+            && folder.append("g", b"cd") == Err(WriteErr::Failed)
+            && holds(folder, "g", "ab")
+            && counts(folder, 3, 0, 1)
+            && folder.append("g", b"e") == Ok(())
+            && holds(folder, "g", "abe")
+            && counts(folder, 4, 0, 1)
+            && folder.append("missing", b"xy") == Ok(())
+            && holds(folder, "missing", "xy")
+            && counts(folder, 5, 0, 1)
     }
 
     #[test]
-    fn a_listed_create_keeps_what_stood(rt: HostRuntime) -> Result<(), Fail> {
+    fn a_listed_call_fails(rt: HostRuntime) -> Result<(), Fail> {
         let alloc = rt.alloc();
-        let mut folder = MemoryFolder::new(alloc, [2].to_vec(alloc)?);
-        folder.put("g", b"abc")?;
-        assert_eq!(rt; folder.create("h"), Ok(()));
-        assert_eq!(rt; folder.create("g"), Err(WriteErr::Failed));
-        assert_eq!(rt; folder.get("h").ok_or("h")?, b"".as_slice());
-        assert_eq!(rt; folder.get("g").ok_or("g")?, b"abc".as_slice());
-        assert_eq!(rt; folder.create("g"), Ok(()));
-        assert_eq!(rt; folder.get("g").ok_or("g")?, b"".as_slice());
-        assert_eq!(rt; folder.store_faults, 1);
-        assert_eq!(rt; folder.load_faults, 0);
-        assert_eq!(rt; folder.calls, 3);
-        Ok(())
-    }
-
-    #[test]
-    fn a_listed_append_adds_nothing(rt: HostRuntime) -> Result<(), Fail> {
-        let alloc = rt.alloc();
-        let mut folder = MemoryFolder::new(alloc, [3].to_vec(alloc)?);
-        for (call, bytes, want, held) in [
-            (2, "ab", Ok(()), "ab"),
-            (3, "cd", Err(WriteErr::Failed), "ab"),
-            (4, "e", Ok(()), "abe"),
-        ] {
-            if call == 2 {
-                assert_eq!(rt; folder.create("g"), Ok(()));
-            }
-            assert_eq!(rt; folder.append("g", bytes.as_bytes()), want, "at {call}");
-            assert_eq!(rt; folder.get("g").ok_or("g")?, held.as_bytes(), "at {call}");
-            assert_eq!(rt; folder.calls, call, "at {call}");
-        }
-        assert_eq!(rt; folder.append("missing", b"xy"), Ok(()));
-        assert_eq!(rt; folder.get("missing").ok_or("missing")?, b"xy".as_slice());
-        assert_eq!(rt; folder.store_faults, 1);
-        assert_eq!(rt; folder.load_faults, 0);
+        assert!(rt; fails_at_the_second_load(&mut with_a_file(alloc, 2)?));
+        assert!(rt; fails_at_the_second_create(&mut with_a_file(alloc, 2)?));
+        assert!(rt; fails_at_the_second_append(&mut with_a_file(alloc, 3)?));
         Ok(())
     }
 }

@@ -1,3 +1,6 @@
+//! A sink in memory, for tests: it tells all that it has taken, and the writes that are listed meet a fault, and
+//! no others.
+
 ghost use Rattle.std.specs.Prelude.{◌≡◌, ◌↔◌, [], Some, IsErrOf, IfOk, length, Contains};
 ghost use Rattle.clu_outside.specs.Counts.{next_count};
 ghost use Rattle.clu_outside.specs.Sink.{TakesPrefix, WriteCause};
@@ -73,14 +76,18 @@ mod tests {
     use crate::write_whole;
     use std::test::Fail;
 
+    fn fails_at_the_second_write(sink: &mut MemorySink) -> bool {
+        write_whole(sink, b"ab") == Ok(())
+            && write_whole(sink, b"cd") == Err(WriteErr::Failed)
+            && sink.bytes() == b"ab".as_slice()
+            && sink.faults == 1
+    }
+
     #[test]
     fn a_listed_write_fails(rt: HostRuntime) -> Result<(), Fail> {
         let alloc = rt.alloc();
         let mut sink = MemorySink::new(alloc, [2].to_vec(alloc)?);
-        assert_eq!(rt; write_whole(&mut sink, b"ab"), Ok(()));
-        assert_eq!(rt; write_whole(&mut sink, b"cd"), Err(WriteErr::Failed));
-        assert_eq!(rt; sink.bytes(), b"ab".as_slice());
-        assert_eq!(rt; sink.faults, 1);
+        assert!(rt; fails_at_the_second_write(&mut sink));
         Ok(())
     }
 }

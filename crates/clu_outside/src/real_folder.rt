@@ -1,3 +1,7 @@
+//! The folder in which the program runs, by the calls of the system. It tells nothing, and is trusted with its content.
+//! A file is read in pieces up to the limit, so a longer one is refused without being held; the one that was stored
+//! in last stays open, so a file of many pieces is opened once.
+
 ghost use Rattle.std.specs.Prelude.{◌≡◌, None};
 ghost use Rattle.clu_outside.specs.Counts.{next_count};
 ghost use Rattle.clu_outside.specs.Sink.{WriteCause};
@@ -154,75 +158,106 @@ impl<'a, R: Files + AllocGlobal> Folder for RealFolder<'a, R> {
 #[cfg(test)]
 mod tests {
     use super::*;
-    use std::test::Fail;
+    use crate::fixtures::{has, lays, removes};
 
-    #[test]
-    fn a_load_has_a_limit_and_a_cause(rt: HostRuntime) -> Result<(), Fail> {
-        let alloc = rt.alloc();
-        fs::write(&rt, "g", b"abc".as_slice())?;
-        fs::write(&rt, "long", [b'x'; PIECE + 1].as_slice())?;
-        fs::create_dir(&rt, "folder")?;
-        let mut folder = RealFolder::new(&rt);
-        for limit in [3, u64::MAX] {
-            let bytes = folder.load(alloc, "g", limit)?;
-            assert_eq!(rt; bytes.as_slice(), b"abc".as_slice(), "at {limit}");
+    /// Whether a load answers these bytes.
+    fn loads<F: Folder>(
+        alloc: Global,
+        folder: &mut F,
+        name: &str,
+        limit: u64,
+        want: &[u8],
+    ) -> bool {
+        match folder.load(alloc, name, limit) {
+            Ok(bytes) => bytes.as_slice() == want,
+            Err(_) => false,
         }
-        let long = PIECE as u64;
-        let bytes = folder.load(alloc, "long", long + 1)?;
-        assert_eq!(rt; bytes.as_slice(), [b'x'; PIECE + 1].as_slice());
-        for (name, limit, want) in [
-            ("g", 2, LoadErr::TooLong),
-            ("long", long, LoadErr::TooLong),
-            ("missing", 3, LoadErr::Missing),
-        ] {
-            assert_eq!(rt;
-                folder.load(alloc, name, limit).err(),
-                Some(want),
-                "of {name}"
-            );
+    }
+
+    /// Whether a load answers this error.
+    fn refuses<F: Folder>(
+        alloc: Global,
+        folder: &mut F,
+        name: &str,
+        limit: u64,
+        want: LoadErr,
+    ) -> bool {
+        match folder.load(alloc, name, limit) {
+            Ok(_) => false,
+            Err(error) => error == want,
         }
-        assert_eq!(rt; folder.load_faults, 0);
-        assert_eq!(rt;
-            folder.load(alloc, "folder", 3).err(),
-            Some(LoadErr::Failed)
-        );
-        assert_eq!(rt; folder.load_faults, 1);
-        Ok(())
     }
 
     #[test]
-    fn a_file_is_created_and_added_to(rt: HostRuntime) -> Result<(), Fail> {
-        fs::write(&rt, "g", b"what stood there".as_slice())?;
-        fs::write(&rt, "h", b"ab".as_slice())?;
+    fn a_load_has_a_limit_and_a_cause(rt: HostRuntime) {
+        let alloc = rt.alloc();
+        let x = [b'x'; PIECE + 1];
+        assert!(rt; lays(&rt, "g", b"abc"));
+        assert!(rt; lays(&rt, "long", &x));
+        assert!(rt; fs::create_dir_all(&rt, "folder").is_ok());
         let mut folder = RealFolder::new(&rt);
-        assert_eq!(rt; folder.create("g"), Ok(()));
-        assert_eq!(rt; fs::read(&rt, "g")?.is_empty(), true);
-        for (name, bytes, held) in [
+        assert!(rt; loads(alloc, &mut folder, "g", 3, b"abc"));
+        assert!(rt; loads(alloc, &mut folder, "g", u64::MAX, b"abc"));
+        assert!(rt; loads(alloc, &mut folder, "long", PIECE as u64 + 1, &x));
+        for (name, limit, want, faults) in &[
+            ("g", 2, LoadErr::TooLong, 0),
+            ("long", PIECE as u64, LoadErr::TooLong, 0),
+            ("missing", 3, LoadErr::Missing, 0),
+            ("folder", 3, LoadErr::Failed, 1),
+        ] {
+            assert!(rt; refuses(alloc, &mut folder, *name, *limit, *want), "{name}");
+            assert!(rt; folder.load_faults == *faults, "{name}");
+        }
+        assert!(rt; removes(&rt, "g"));
+        assert!(rt; removes(&rt, "long"));
+        assert!(rt; fs::remove_dir(&rt, "folder").is_ok());
+    }
+
+    /// Whether an append goes well, and leaves these bytes in the system's file.
+    fn adds(
+        rt: &HostRuntime,
+        folder: &mut RealFolder<'_, HostRuntime>,
+        name: &str,
+        bytes: &str,
+        held: &str,
+    ) -> bool {
+        folder.append(name, bytes.as_bytes()) == Ok(()) && has(rt, name, held.as_bytes())
+    }
+
+    #[test]
+    fn a_file_is_created_and_added_to(rt: HostRuntime) {
+        assert!(rt; lays(&rt, "g", b"what stood there"));
+        assert!(rt; lays(&rt, "h", b"ab"));
+        let mut folder = RealFolder::new(&rt);
+        assert!(rt; folder.create("g") == Ok(()));
+        assert!(rt; has(&rt, "g", b""));
+        for (name, bytes, held) in &[
             ("g", "ab", "ab"),
             ("g", "c", "abc"),
             ("h", "cd", "abcd"),
             ("g", "d", "abcd"),
             ("new", "e", "e"),
         ] {
-            assert_eq!(rt; folder.append(name, bytes.as_bytes()), Ok(()), "of {name}");
-            assert_eq!(rt;
-                fs::read(&rt, name)?.as_slice(),
-                held.as_bytes(),
-                "of {name}"
-            );
+            assert!(rt; adds(&rt, &mut folder, *name, *bytes, *held), "{name}");
         }
-        assert_eq!(rt; folder.store_faults, 0);
-        Ok(())
+        assert!(rt; folder.store_faults == 0);
+        for name in &["g", "h", "new"] {
+            assert!(rt; removes(&rt, *name), "{name}");
+        }
+    }
+
+    /// Whether a create and an append in a folder that isn't there fail, and are counted.
+    fn fails_to_store(folder: &mut RealFolder<'_, HostRuntime>) -> bool {
+        folder.create("none/g") == Err(WriteErr::Failed)
+            && folder.store_faults == 1
+            && folder.append("none/g", b"ab") == Err(WriteErr::Failed)
+            && folder.store_faults == 2
+            && folder.load_faults == 0
     }
 
     #[test]
-    fn a_store_in_a_missing_folder_fails(rt: HostRuntime) -> Result<(), Fail> {
+    fn a_store_in_a_missing_folder_fails(rt: HostRuntime) {
         let mut folder = RealFolder::new(&rt);
-        assert_eq!(rt; folder.create("none/g"), Err(WriteErr::Failed));
-        assert_eq!(rt; folder.store_faults, 1);
-        assert_eq!(rt; folder.append("none/g", b"ab"), Err(WriteErr::Failed));
-        assert_eq!(rt; folder.store_faults, 2);
-        assert_eq!(rt; folder.load_faults, 0);
-        Ok(())
+        assert!(rt; fails_to_store(&mut folder));
     }
 }

@@ -1,3 +1,6 @@
+//! A sink of bytes as a trait: a write takes a prefix and says how long it is. `write_whole` hands over what is left
+//! until nothing is; it ends since each write takes a byte at least, and a fault leaves a prefix.
+
 ghost use Rattle.std.specs.Prelude.{◌≡◌, ℕ, Option, List};
 ghost use Rattle.clu_outside.specs.declared.sink.WriteErr.TheVariants.{Memory};
 ghost use Rattle.clu_outside.specs.Sink.{TakesPrefix, TakesWhole, WriteCause};

@@ -1,4 +1,5 @@
-//! Why bytes are no text of a graph: the first line that fails, with the first of its causes.
+//! Why bytes are no text of a graph (PACE 2021, exact track): the first line that fails, with the first of its causes
+//! in a fixed order, so each bad text has one answer.
 
 ghost use Rattle.std.specs.Prelude.{◌≡◌};
 ghost use Rattle.clu_pace.specs.declared.error.PaceError.TheVariants.{Memory};

@@ -9,8 +9,6 @@ mod error;
 mod graph;
 mod numbers;
 mod reader;
-#[cfg(test)]
-mod tests;
 
 pub use error::PaceError;
 pub use graph::Graph;

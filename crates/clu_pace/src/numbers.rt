@@ -71,38 +71,3 @@ impl Names for Graph {
         Name::Number { digits, len }
     }
 }
-
-#[cfg(test)]
-mod tests {
-    use super::*;
-    use crate::read_pace;
-    use std::test::Fail;
-
-    fn count_of<N: Names>(names: &N) -> u32 {
-        names.count()
-    }
-
-    fn found<N: Names>(names: &N, name: &str) -> Option<Vertex> {
-        names.find(name.as_bytes())
-    }
-
-    fn is_named<N: Names>(names: &N, v: Vertex, name: &str) -> bool {
-        v.0 < names.count() && names.name(v).as_bytes() == name.as_bytes()
-    }
-
-    #[test]
-    fn a_vertex_is_named_by_its_number(rt: HostRuntime) -> Result<(), Fail> {
-        let graph = read_pace(rt.alloc(), b"p cep 1000 0\n")?;
-        assert_eq!(rt; count_of(&graph), 1000);
-        for (name, v) in [("1", 0), ("10", 9), ("123", 122), ("1000", 999)] {
-            assert!(rt; is_named(&graph, Vertex(v), name), "of {name}");
-            assert_eq!(rt; found(&graph, name), Some(Vertex(v)), "of {name}");
-        }
-        assert_eq!(rt; is_named(&graph, Vertex(0), "01"), false);
-        assert_eq!(rt; found(&graph, "0010"), Some(Vertex(9)));
-        for name in ["", "0", "1001", "x", "+1"] {
-            assert_eq!(rt; found(&graph, name), None, "of {name}");
-        }
-        Ok(())
-    }
-}

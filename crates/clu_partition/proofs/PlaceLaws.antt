@@ -12,12 +12,12 @@ total_map : {A : Type 0} (g : ℕ → A) (f : A → ℤ) (xs : List ℕ) → tot
 total_map g f [] = refl
 total_map g f (x ∷ xs) = ap (λ z. f (g x) +ℤ z) (total_map g f xs)
 
-pair_map : {A : Type 0} (g : ℕ → A) (f : A → A → ℤ) (xs : List ℕ) → pair_total f (map g xs) ≡ pair_total (λ i j. f (g i) (g j)) xs
+pub pair_map : {A : Type 0} (g : ℕ → A) (f : A → A → ℤ) (xs : List ℕ) → pair_total f (map g xs) ≡ pair_total (λ i j. f (g i) (g j)) xs
 pair_map g f [] = refl
 pair_map g f (x ∷ xs) = let h = total_map g (f (g x)) xs in let k = pair_map g f xs in omega (arith, ints, h, k)
 
 -- a list is what stands at its places
-places : (xs : List ℕ) → xs ≡ map (λ i. get_or xs i 0) (below (length xs))
+pub places : (xs : List ℕ) → xs ≡ map (λ i. get_or xs i 0) (below (length xs))
 places xs = fill_by_all (λ i. get_or xs i 0) xs (length xs) 0 refl (λ k at. refl)
 
 -- labels by place are the labels of the members

@@ -63,19 +63,3 @@ pub trait Names {
     ghost own: { (s : Self) (v : ℕ) (name : List ℕ) → length (names s) ≤ 1000
         → slice_get (names s) v ≡ Some name → is_named s name v };
 }
-
-#[cfg(test)]
-mod tests {
-    use super::*;
-
-    #[test]
-    fn names_have_their_bytes(rt: HostRuntime) {
-        let number = Name::Number {
-            digits: *b"4200000000",
-            len: 2,
-        };
-        assert_eq!(rt; number.as_bytes(), b"42".as_slice());
-        let text = Name::Text("ab");
-        assert_eq!(rt; text.as_bytes(), b"ab".as_slice());
-    }
-}

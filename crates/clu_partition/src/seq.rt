@@ -1,4 +1,6 @@
-//! A vector that contracts see as the list of its items: two values with the same items are equal, whatever their capacity.
+//! A vector that contracts see as the list of its items: two values with the same items are equal, whatever their
+//! capacity, so that certificates are compared as lists are.
+
 ghost use Rattle.std.specs.Prelude.{◌≡◌, ◌++◌, [], ◌∷◌, length, IfOk, OnOk, OnErr};
 
 use std::alloc::{AllocError, Global};

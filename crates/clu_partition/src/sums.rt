@@ -1,4 +1,6 @@
-//! A sum over all pairs of places, written once: no overflow, since 500,000 numbers of 2^88 stay below 2^107.
+//! A sum over all pairs of places, written once for values and totals. It doesn't overflow, since 500,000 numbers of
+//! 2^88 stay below 2^107.
+
 ghost use Rattle.std.specs.Prelude.{◌≡◌, ◌<◌, ◌≤◌, ◌^◌, ℕ, ℤ, unsigned_abs};
 ghost use Rattle.clu_partition.specs.Partition.{below};
 ghost use Rattle.clu_partition.specs.Sums.{pair_total};

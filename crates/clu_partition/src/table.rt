@@ -100,29 +100,3 @@ impl PairTable {
         total.unsigned_abs()
     }
 }
-
-#[cfg(test)]
-mod tests {
-    use super::*;
-    use std::test::Fail;
-
-    fn has_both_orders(table: &mut PairTable) -> bool {
-        if table.n() != 3 {
-            return false;
-        }
-        table.set(Vertex(2), Vertex(0), -5);
-        table.set(Vertex(0), Vertex(1), 3);
-        table.get(Vertex(0), Vertex(2)) == -5
-            && table.get(Vertex(2), Vertex(0)) == -5
-            && table.get(Vertex(1), Vertex(0)) == 3
-            && table.get(Vertex(1), Vertex(2)) == 0
-            && table.total_abs() == 8
-    }
-
-    #[test]
-    fn both_orders_of_a_pair_have_one_weight(rt: HostRuntime) -> Result<(), Fail> {
-        let mut table = PairTable::new(rt.alloc(), 3)?;
-        assert!(rt; has_both_orders(&mut table));
-        Ok(())
-    }
-}

@@ -14,8 +14,6 @@ mod pairs;
 mod reader;
 mod rule;
 mod rules;
-#[cfg(test)]
-mod tests;
 mod values;
 
 pub use closing::{CloseError, Contradiction, close};

@@ -10,8 +10,6 @@ mod cut;
 mod decimal;
 mod digit_runs;
 mod numbers;
-#[cfg(test)]
-mod tests;
 mod wide;
 
 pub use cut::{FieldIter, Line, LineIter, fields, lines};

@@ -1,6 +1,10 @@
-//! Worked values of the readers and writers, as tables.
+//! Worked values of the readers and writers of texts, as tables. Each table is walked by one test with one call a row,
+//! since a test is proved as any function is.
 
-use super::*;
+use clu_text::{
+    BadNumber, FieldIter, LineIter, fields, lines, push_number, push_u128, read_decimal, read_u32,
+    read_u64, read_u128,
+};
 use std::alloc::{AllocError, Global};
 use std::test::Fail;
 

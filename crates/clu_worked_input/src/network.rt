@@ -1,6 +1,8 @@
-//! Worked edge lists, as tables.
+//! Worked edge lists, as tables: names, loops, comments, ends of lines, weights and each limit; which line is refused
+//! and why; how each refusal is shown; and what vertices are named.
 
-use super::*;
+use crate::fixtures::{finds, has_count, is_named};
+use clu_network::{NetError, NetLine, Network, read_network};
 use clu_text::push_number;
 use std::alloc::{AllocError, Global};
 use std::test::Fail;
@@ -211,5 +213,47 @@ fn a_million_lines_are_read(rt: HostRuntime) -> Result<(), Fail> {
     assert!(rt; is_network(&read_network(alloc, &most, None)?, 1, 0, 0));
     let past = name_behind(alloc, 1_000_000)?;
     assert!(rt; is_refused(alloc, &past, NetError::TooManyLines));
+    Ok(())
+}
+
+/// Names that look like others: a number with a zero before it, and a letter beyond ASCII.
+const NAMES: &[u8] = b"b a\n#c d\ne\xc3\xa9 a 2\n01\n1 b";
+
+/// Its names, with their vertices.
+const NAMED: [(&[u8], u32); 5] = [
+    (b"b", 0),
+    (b"a", 1),
+    (b"e\xc3\xa9", 2),
+    (b"01", 3),
+    (b"1", 4),
+];
+
+/// Bytes, and which vertex of it they name.
+const FOUND: [(&[u8], Option<u32>); 12] = [
+    (b"b", Some(0)),
+    (b"a", Some(1)),
+    (b"e\xc3\xa9", Some(2)),
+    (b"01", Some(3)),
+    (b"1", Some(4)),
+    (b"", None),
+    (b"c", None),
+    (b"B", None),
+    (b"bb", None),
+    (b"e", None),
+    (b"e\xc3", None),
+    (b"\xff", None),
+];
+
+#[test]
+fn a_vertex_is_named_by_its_field(rt: HostRuntime) -> Result<(), Fail> {
+    let network = read_network(rt.alloc(), NAMES, None)?;
+    assert!(rt; has_count(&network, 5));
+    for (name, v) in &NAMED {
+        assert!(rt; is_named(&network, *v, name), "of {v}");
+    }
+    assert!(rt; !is_named(&network, 3, b"1"));
+    for (row, (name, v)) in FOUND.iter().enumerate() {
+        assert!(rt; finds(&network, name, *v), "in row {row}");
+    }
     Ok(())
 }

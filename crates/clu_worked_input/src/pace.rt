@@ -1,6 +1,8 @@
-//! Worked texts, as tables: what graph they are of, or which line is refused and why.
+//! Worked texts of graphs, as tables: what graph each is of, or which line is refused and why; how each refusal is
+//! shown; that vertices are adjacent in both orders; and what they are named.
 
-use super::*;
+use crate::fixtures::{finds, has_count, is_named};
+use clu_pace::{Graph, PaceError, read_pace};
 use clu_partition::Vertex;
 use std::alloc::{AllocError, Global};
 use std::test::Fail;
@@ -176,5 +178,36 @@ fn vertices_are_adjacent_in_both_orders(rt: HostRuntime) -> Result<(), Fail> {
     assert!(rt; are_joined(&graph, 2, 0));
     assert!(rt; !are_joined(&graph, 1, 2));
     assert!(rt; !are_joined(&graph, 1, 1));
+    Ok(())
+}
+
+/// Names of the vertices of a graph of 1,000, each as it is written.
+const NAMED: [(&[u8], u32); 4] = [(b"1", 0), (b"10", 9), (b"123", 122), (b"1000", 999)];
+
+/// Bytes, and which vertex of that graph they name.
+const FOUND: [(&[u8], Option<u32>); 10] = [
+    (b"1", Some(0)),
+    (b"10", Some(9)),
+    (b"123", Some(122)),
+    (b"1000", Some(999)),
+    (b"0010", Some(9)),
+    (b"", None),
+    (b"0", None),
+    (b"1001", None),
+    (b"x", None),
+    (b"+1", None),
+];
+
+#[test]
+fn a_vertex_is_named_by_its_number(rt: HostRuntime) -> Result<(), Fail> {
+    let graph = read_pace(rt.alloc(), b"p cep 1000 0\n")?;
+    assert!(rt; has_count(&graph, 1000));
+    for (name, v) in &NAMED {
+        assert!(rt; is_named(&graph, *v, name), "of {v}");
+    }
+    assert!(rt; !is_named(&graph, 0, b"01"));
+    for (row, (name, v)) in FOUND.iter().enumerate() {
+        assert!(rt; finds(&graph, name, *v), "in row {row}");
+    }
     Ok(())
 }

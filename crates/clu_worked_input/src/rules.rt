@@ -1,8 +1,8 @@
-//! Worked files over six vertices, what they give, and why others are refused. The names are
+//! Worked rules files over six vertices, what they give, and why others are refused. The names are
 //! letters, so a text reads as a user would write it.
 
-use crate::{CloseError, RuleError, close, read_rules};
 use clu_partition::{Name, Names, Vertex};
+use clu_rules::{CloseError, RuleError, close, read_rules};
 use std::alloc::{AllocError, Global};
 use std::test::Fail;
 

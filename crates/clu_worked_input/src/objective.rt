@@ -2,8 +2,8 @@
 //! star, a signed five-cycle, one loop, and loops with a repeated line, which were counted by hand: W
 //! is 55 tenths, the degrees 60, 50 and 0.
 
-use super::*;
 use clu_network::read_network;
+use clu_objective::{ObjError, Objective, Problem, pairs_of_graph, pairs_of_network};
 use clu_pace::read_pace;
 use clu_partition::Partition;
 use std::alloc::Global;
