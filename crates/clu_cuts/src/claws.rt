@@ -1,9 +1,6 @@
-//! Which claws a point violates: of a centre and three others of the groups, the shares of the
-//! centre with all come to at most one whole and the shares between the others.
-//!
-//! Sound since each centre is looked at with each three others, until the limit is reached. Fast
-//! since three groups whose claws can't be violated are passed over with all their fourths. The
-//! inequalities are two-set inequalities of Grötschel and Wakabayashi (1990).
+//! The claws that a point violates, inequalities of Grötschel and Wakabayashi (1990): a centre's shares with three others
+//! come to at most one whole and the shares between them. Sound since each centre is held against each three; fast since
+//! three whose claws can't be violated are passed over with all their fourths.
 
 ghost use Rattle.std.specs.Prelude.{◌≡◌, ◌+◌, ◌++◌, ◌<◌, ◌≤◌, ◌≤ℤ◌, ◌^◌, ℕ, pos, ◌+ℤ◌, take, drop, length, IfOk, OnOk, slice_index, [], ◌∷◌, false, int_lt, ◌-ℤ◌};
 ghost use Rattle.clu_cuts.specs.Point.{share};

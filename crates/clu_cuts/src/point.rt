@@ -1,4 +1,5 @@
-//! Points and cuts as a caller hands them in and gets them.
+//! Points and cuts as a caller hands them in and gets them: whole shares over one denominator, so that a violation is
+//! an exact comparison and no rounding can hide one.
 
 use clu_partition::{Seq, Vertex};
 

@@ -1,8 +1,5 @@
-//! The shares of a point as a table by the places of the groups, so that a search reads each in
-//! one step.
-//!
-//! Sound since the groups' list rises: a group is found in it by halving, and no two places have
-//! one group.
+//! The shares of a point as a table by the places of the groups, so that a search reads each in one step. Sound since
+//! the list of groups rises: a group is found in it by halving, and no two places have one group.
 
 ghost use Rattle.std.specs.Prelude.{◌≡◌, ◌<◌, ◌≤◌, ◌≤ℤ◌, ◌^◌, ℕ, pos, length, slice_index, Contains, IfOk};
 ghost use Rattle.clu_state.specs.State.{IsState, group_leaders};
@@ -57,6 +54,7 @@ impl<'a> Shares<'a> {
         ensures least { pos 0 ≤ℤ result }
         ensures most { result ≤ℤ self.now.point.now.den }
     {
+        // for the prover: the groups are those of the table
         let _groups = self.groups;
         self.table.get(i, j)
     }

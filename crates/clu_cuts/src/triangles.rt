@@ -1,8 +1,6 @@
-//! Which triangles a point violates: of a centre and two others of the groups, the shares of the
-//! centre with both come to at most one whole and the share between the others.
-//!
-//! Sound since a table by places holds each share once and each triple of groups is looked at,
-//! until the limit is reached. The inequalities are those of Grötschel and Wakabayashi (1989).
+//! The triangles that a point violates, inequalities of Grötschel and Wakabayashi (1989): a centre's shares with two
+//! others come to at most one whole and the share between them. Sound since each triple of groups is looked at from each
+//! centre, until the limit is reached.
 
 ghost use Rattle.std.specs.Prelude.{◌≡◌, ◌+◌, ◌++◌, ◌<◌, ◌≤◌, ◌≤ℤ◌, ◌^◌, pos, take, drop, length, IfOk, OnOk, slice_index, [], ◌∷◌};
 ghost use Rattle.clu_cuts.specs.Shares.{AreShares};

@@ -1,8 +1,7 @@
-//! Whether a reduction holds: two groups whose weight outweighs all else that is at stake may be
-//! decided at once. Pair, heavy and light are the heavy edge and heavy non-edge rules of Böcker,
-//! Briesemeister and Klau (2011), twins are the critical cliques of Guo (2009) with weights. That an
-//! apart pair counts for nothing, and that heavy asks for its apart partners, is an own exchange
-//! argument: moving u to v's block breaks no rule, as each apart partner of u is one of v.
+//! Whether a reduction holds: a weight that outweighs all else at stake decides its pair. Heavy edges and non-edges of
+//! Böcker, Briesemeister and Klau (2011), weighted critical cliques of Guo (2009). That apart pairs count for nothing
+//! is an own exchange: moving u to the block of v breaks no rule where each apart partner of u is one of v.
+
 ghost use Rattle.std.specs.Prelude.{◌≡◌, ◌≢◌, ◌↔◌, ℕ, ◌≤ℤ◌, Contains, All, IsTrue};
 ghost use Rattle.clu_partition.specs.Sums.{total};
 ghost use Rattle.clu_state.specs.State.{State, IsState, IsFree, leader, are_apart, group_weight, group_leaders};
@@ -18,6 +17,7 @@ use clu_state::Situation;
 pub fn holds<S: Situation>(state: &S, step: &Step) -> bool
     ensures { IsTrue result ↔ Holds (S.state state.now) step.now }
 {
+    // for the prover: the state is a valid one
     let _members = state.members();
     if !is_free(state, step.u, step.v) {
         return false;
@@ -87,6 +87,7 @@ fn are_light<S: Situation>(state: &S, a: Vertex, b: Vertex) -> bool
     ensures { IsTrue result ↔ IsLight (group_weight (S.state state.now))
         (are_apart (S.state state.now)) (group_leaders (S.state state.now)) a b }
 {
+    // for the prover: the state is a valid one
     let _members = state.members();
     let weight = state.weight(a, b);
     weight < 0 && costs_fit(state, Kind::Light, a, b, -weight)

@@ -71,6 +71,7 @@ fn labels_of<S: Situation>(alloc: Global, state: &S) -> Result<Vec<Vertex>, Allo
     ensures labels { IfOk result (λ labels. AreLabels (S.state state.now) (slice_index labels.items)) }
     ensures stable { IfOk result (λ labels. AreStable (S.state state.now) (slice_index labels.items)) }
 {
+    // for the prover: the state is a valid one
     let _members = state.members();
     let groups = state.leaders(alloc)?;
     let mut labels = first_labels(alloc, state)?;

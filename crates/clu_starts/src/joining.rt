@@ -1,8 +1,5 @@
-//! Joining groups of a state greedily, as agglomerative clustering does it: each time two groups of
-//! the greatest positive weight (Newman 2004), until there are none.
-//!
-//! Fast since each group keeps its best later partner and a join looks anew only at those that it
-//! touches; sound whatever they are, since they are hints: a pair's weight is looked at before it is
+//! Joining groups greedily: each time two of greatest positive weight, until none gains (Newman 2004). Fast since each
+//! group keeps its best later partner; sound since partners are hints, and a weight is looked at before its groups are
 //! joined, and all free pairs before the end.
 
 ghost use Rattle.std.specs.Prelude.{◌≡◌, ◌≢◌, ◌<◌, ◌≤◌, ◌≤ℤ◌, ◌<ℤ◌, ℕ, pos, All, Contains, IfOk, OnOk, MatchOption, OnSome, length, map, slice_index};

@@ -1,8 +1,6 @@
-//! What the moves of one set of vertices are worth: for each block the weight between the set and
-//! the vertices outside it that are in the block, and whether a forbidden pair bars it.
-//!
-//! Sound since a move changes the weight inside blocks by the difference of two of these sums. Fast
-//! since one pass over the pairs at the set fills them for all blocks at once.
+//! What the moves of one set are worth: for each block the weight between the set and what is in it, and whether a
+//! forbidden pair bars it. Sound since a move gains the difference of two of these sums; fast since one pass over the
+//! pairs at the set fills all.
 
 ghost use Rattle.std.specs.Prelude.{◌≡◌, ◌<◌, ◌≤◌, ◌+◌, ◌*◌, ◌^◌, ◌↔◌, ◌<ℤ◌, ℕ, pos, false, IfOk, IsTrue, length, replicate, slice_index, slice_index_or};
 ghost use Rattle.clu_partition.specs.Pairs.{weight_of};

@@ -1,7 +1,6 @@
-//! Polishing a partition: local moves of groups to the best block, and joins of blocks where no move
-//! helps, until neither does (local search as Kernighan and Lin 1970, Blondel and others 2008).
-//!
-//! It ends since each step is worth more and no partition passes the total weight.
+//! Polishing a partition by moves of groups, and by joins of blocks where no move helps, until neither does (local
+//! search as Kernighan and Lin 1970, Blondel and others 2008). It ends since each step is worth more and no partition
+//! passes the total weight.
 
 ghost use Rattle.std.specs.Prelude.{◌≡◌, ◌≢◌, ◌<◌, ◌≤◌, ◌≤ℤ◌, ℕ, true, false, IfOk, MatchOption, length, slice_index};
 ghost use Rattle.clu_partition.specs.Closed.{IsClosed, IsPermitted};
@@ -30,6 +29,7 @@ pub fn polish(
     ensures settled { IfOk result (λ q. IsSettled pairs.now start.now (slice_index q)) }
     ensures no_less { IfOk result (λ q. worth pairs.now (slice_index p) ≤ℤ worth pairs.now (slice_index q)) }
 {
+    // for the prover: the rules are closed
     let _n = start.n();
     let keys = group_keys(alloc, start)?;
     let mut now = p;

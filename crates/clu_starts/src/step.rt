@@ -1,7 +1,5 @@
-//! One step of polishing: a set of vertices goes to another block, or a block joins another.
-//!
-//! A join is the move of a whole block, so both are one law: the set goes where its row has the
-//! greatest sum, or the first that is better than that of its own block.
+//! One step of polishing: a set of vertices goes to another block. A join is the move of a whole block, so both are one
+//! law: the set goes where its row has the greatest sum, or the first that is better than that of its own block.
 
 ghost use Rattle.std.specs.Prelude.{◌≡◌, ◌≢◌, ◌<◌, ◌≤◌, ◌≤ℤ◌, ◌+ℤ◌, pos, ℕ, false, IfOk, MatchOption, length, slice_index};
 ghost use Rattle.clu_partition.specs.Closed.{IsClosed, IsPermitted};

@@ -1,3 +1,7 @@
+//! The tables of a state without decisions: the weight of each two vertices goes to the places of their groups. Linear
+//! in the vertices, the forbidden pairs and the pairs of members, and no cell can pass 2^88, since the weights of all
+//! pairs together don't.
+
 ghost use Rattle.std.specs.Prelude.{◌≡◌, ◌≢◌, ◌↔◌, ◌<◌, ◌≤◌, ◌^◌, ℕ, pos, ◌≤ℤ◌, All, Contains, IsTrue, IfOk, length, slice_index};
 ghost use Rattle.clu_partition.specs.Closed.{joins};
 ghost use Rattle.clu_partition.specs.Pairs.{are_pair, weight_of};

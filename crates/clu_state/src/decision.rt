@@ -1,3 +1,6 @@
+//! Decisions on pairs: two groups share a block, or stay in different ones (merging and forbidding, Böcker, Briesemeister,
+//! Bui and Truss 2009). Each is named by any two vertices of its groups.
+
 use clu_partition::Vertex;
 
 /// A decision about the groups of two members, which are different groups and not apart.

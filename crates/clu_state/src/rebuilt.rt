@@ -1,3 +1,7 @@
+//! A state that keeps tables of its groups, each at the place of its least vertex. A decision merges two rows or marks
+//! one pair, so it is linear in the members, and each question is one look-up (merging of vertices as in Böcker,
+//! Briesemeister, Bui and Truss 2009).
+
 ghost use Rattle.std.specs.Prelude.{All, min, max, ◌≡◌, ◌≢◌, ◌↔◌, ◌<◌, ◌≤◌, ◌^◌, ℕ, ℤ, ◌+ℤ◌, Contains, IsTrue, length, if◌then◌else◌, ◌==◌, slice_index, slice_set, unsigned_abs, EachIndex};
 ghost use Rattle.clu_partition.specs.Pairs.{Pairs, weight_of, with_weight, IsTable};
 ghost use Rattle.clu_state.specs.Rebuilt.{Agrees};

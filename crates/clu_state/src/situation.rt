@@ -1,3 +1,6 @@
+//! What the solver and the checker ask of a state, as a trait, so that neither knows how one keeps its groups. Leaders
+//! and free pairs are written here once, over the other answers, and so are proved for every state.
+
 ghost use Rattle.std.specs.Prelude.{◌≡◌, ◌≢◌, ◌++◌, All, ℕ, ℤ, Contains, IfOk, OnOk, OnErr};
 ghost use Rattle.clu_state.specs.Chains.{IsLeastTied};
 ghost use Rattle.clu_state.specs.State.{State, IsFree, IsState, leader, group_weight, are_apart, fixed_value, free_pairs, free_with, group_leaders, CanDecide, decided};
