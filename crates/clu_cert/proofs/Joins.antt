@@ -1,10 +1,10 @@
 -- A line as its first field and the others, each behind a space.
-use Rattle.std.proofs.Common.{◌≡◌, ℕ, List, [], ◌∷◌, ◌++◌, ◌≤◌, ◌^◌, ℤ, pos, negsuc, to_z, of_z, FitsSigned, arith, map, length, codes, refl, sym, ◌∙◌, ap, append_assoc, unsigned_abs}
+use Rattle.std.proofs.Common.{◌≡◌, ℕ, List, [], ◌∷◌, ◌++◌, ◌<◌, ◌≤◌, ◌+◌, ◌^◌, ℤ, pos, negsuc, to_z, of_z, FitsSigned, arith, map, take, get_or, length, codes, refl, sym, ◌∙◌, ap, append_assoc, unsigned_abs}
 use Rattle.std.specs.List.{flat_map, join_with_byte}
 use Rattle.std.specs.Fmt.{decimal}
 use Rattle.std.specs.Int.{w128}
 use Rattle.std.proofs.lemmas.Int.{to_z-of_z}
-use Rattle.std.proofs.lemmas.List.{append-nil}
+use Rattle.std.proofs.lemmas.List.{append-nil, map-append, take_more}
 use Rattle.std.proofs.lemmas.Grind.{flat_map-append}
 use Rattle.clu_rows.specs.Rows.{TwoSet}
 use Rattle.clu_cert.specs.Text.{from_one, numbers_line, row_line, line_text, text_of, text, version_line, end_line, objective_line, count_line, whole_line, step_line, proof_lines, lines_from_value, lines_from_steps, lines_from_step, lines_from_part}
@@ -96,3 +96,11 @@ signed_fits (negsuc n) h = omega arith
 
 pub same_signed : (z : ℤ) → unsigned_abs z ≤ 2 ^ 126 → to_z w128 (of_z w128 z) ≡ z
 same_signed z h = to_z-of_z w128 z (signed_fits z h)
+
+-- the lines of the rows up to a place, and of the one there
+pub row_behind : (out now new : List ℕ) (rows : List TwoSet) (i : ℕ) (r : TwoSet) → i < length rows → r ≡ get_or rows i r
+    → now ≡ out ++ text_of (map row_line (take i rows)) → new ≡ now ++ text_of (row_line r ∷ []) → new ≡ out ++ text_of (map row_line (take (i + 1) rows))
+row_behind out now new rows i r l e is more = more
+    ∙ sym (next out now (map row_line (take i rows)) (row_line r ∷ []) is)
+    ∙ ap (λ (ls : List (List (List ℕ))). out ++ text_of ls) (sym (map-append row_line (take i rows) (r ∷ [])))
+    ∙ ap (λ (rs : List TwoSet). out ++ text_of (map row_line rs)) (ap (λ (q : TwoSet). take i rows ++ q ∷ []) e ∙ sym (take_more rows i r l))

@@ -1,5 +1,5 @@
 -- One line further in a list of steps, parts, items or rows.
-use Rattle.std.proofs.Common.{◌≡◌, ℕ, suc, ◌<◌, ◌^◌, List, [], ◌∷◌, ◌++◌, Some, None, length, map, codes, refl, sym, ◌∙◌, ap, subst, arith, append_assoc}
+use Rattle.std.proofs.Common.{◌≡◌, ℕ, suc, ◌<◌, ◌^◌, List, [], ◌∷◌, ◌++◌, Some, None, length, map, codes, refl, sym, ◌∙◌, ap, subst, arith, append_assoc, append-nil}
 use Rattle.std.specs.List.{flat_map, AllByRecursion}
 use Rattle.clu_cert.specs.declared.certificate.Item.{Item}
 use Rattle.clu_cert.specs.declared.certificate.Item.TheVariants as item
@@ -360,3 +360,51 @@ module _ (parts later left : ℕ) (cert : Certificate) (l : List (List ℕ)) (pa
 
   pub row_none : RowLeft parts later (suc left) cert part leaf c (l ∷ more) → ⊥
   row_none h = row_none_at h.rows h.items h.proofs h.row_count h.rows_fit h.lines
+
+-- a leaf whose rows are all read is an item behind the others
+module _ (parts later : ℕ) (cert : Certificate) (part : Proof) (leaf : Leaf) (items : List Item) (is : items ≡ part.items ++ (item.Leaf leaf ∷ []))
+    (c : Certificate) (more : List (List (List ℕ))) where
+  leaf_behind : (rest : List Item) → part.items ++ (item.Leaf (record { den = leaf.den; rows = leaf.rows ++ [] }) ∷ rest) ≡ items ++ rest
+  leaf_behind rest = (λ i. part.items ++ (item.Leaf (record { den = leaf.den; rows = append-nil leaf.rows i }) ∷ rest))
+      ∙ push_front part.items (item.Leaf leaf) rest ∙ (λ i. sym is i ++ rest)
+
+  leaf_done_at : (rows : List TwoSet) (rest : List Item) (proofs : List Proof) → Head cert c → c.root_steps ≡ cert.root_steps
+      → c.proofs ≡ cert.proofs ++ ((record {
+        part = part.part;
+        items = part.items ++ (item.Leaf (record { den = leaf.den; rows = leaf.rows ++ rows }) ∷ rest);
+      }) ∷ proofs)
+      → length proofs ≡ parts → AllByRecursion ProofFits proofs → length rest ≡ later → AllByRecursion ItemFits rest → length rows ≡ 0
+      → more ≡ map row_line rows ++ lines_from_item rest proofs → ItemLeft parts later cert (record { part = part.part; items = items }) c more
+  leaf_done_at (q ∷ qs) rest ps head steps are count fits ic fit rc lines = absurd (omega (arith, rc))
+  leaf_done_at [] rest ps head steps are count fits ic fit rc lines = record {
+    head = head;
+    steps_are = steps;
+    items = rest;
+    proofs = ps;
+    proofs_are = are ∙ (λ i. cert.proofs ++ ((record { part = part.part; items = leaf_behind rest i }) ∷ ps));
+    count = count;
+    fits = fits;
+    item_count = ic;
+    items_fit = fit;
+    lines = lines;
+  }
+
+  pub leaf_done : RowLeft parts later 0 cert part leaf c more → ItemLeft parts later cert (record { part = part.part; items = items }) c more
+  leaf_done h = leaf_done_at h.rows h.items h.proofs h.head h.steps_are h.proofs_are h.count h.fits h.item_count h.items_fit h.row_count h.lines
+
+  pub leaf_undone : ItemLeft parts later cert (record { part = part.part; items = items }) c more → RowLeft parts later 0 cert part leaf c more
+  leaf_undone h = record {
+    head = h.head;
+    steps_are = h.steps_are;
+    rows = [];
+    items = h.items;
+    proofs = h.proofs;
+    proofs_are = h.proofs_are ∙ (λ i. cert.proofs ++ ((record { part = part.part; items = sym (leaf_behind h.items) i }) ∷ h.proofs));
+    count = h.count;
+    fits = h.fits;
+    item_count = h.item_count;
+    items_fit = h.items_fit;
+    row_count = refl;
+    rows_fit = tt;
+    lines = h.lines;
+  }

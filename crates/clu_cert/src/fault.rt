@@ -1,4 +1,5 @@
-//! Why a line gave nothing. Its number is added by the reader, which alone counts lines.
+//! Why a line gave nothing: it has another form, or memory is wanting. Its number is added by the reader, which alone
+//! counts lines.
 
 ghost use Rattle.std.specs.Prelude.{◌≡◌};
 ghost use Rattle.clu_cert.specs.declared.fault.Fault.TheVariants.{Memory};

@@ -1,7 +1,7 @@
 //! The lines that hold lists of numbers, and those of the items. A list takes room as it is read, so a long
 //! count costs nothing before its lines are there.
 
-ghost use Rattle.std.specs.Prelude.{◌≡◌, ◌+◌, ℕ, List, ◌∷◌, ◌++◌, map, codes, IfOk, IsErrOf, IsNone, IfSome};
+ghost use Rattle.std.specs.Prelude.{◌≡◌, ◌+◌, ℕ, List, [], ◌∷◌, ◌++◌, map, codes, IfOk, OnOk, IsErrOf, IsNone, IfSome};
 ghost use Rattle.std.specs.List.{AllByRecursion};
 ghost use Rattle.clu_cert.specs.Cut.{fields_in};
 ghost use Rattle.clu_cert.specs.Reads.{ReadsOr, Reads};
@@ -15,8 +15,9 @@ use crate::lines::{is_word, read_kind, read_place, three_fields};
 use crate::numbers::{read_long, read_number};
 use clu_partition::{Seq, Vertex};
 use clu_reduce::Step;
-use clu_rows::Row;
-use std::alloc::Global;
+use clu_rows::Rows;
+use std::alloc::{AllocError, Global};
+use std::marker::Model;
 
 /// A line of an item, but for the rows of a leaf.
 #[derive(Clone, Copy)]
@@ -27,6 +28,34 @@ pub enum ItemLine {
     Reduce(Step),
     /// The denominator of a leaf and the number of its rows.
     Leaf(u64, u64),
+}
+
+/// What a line `row` says.
+#[derive(Drop)]
+pub struct RowLine {
+    /// The set before the slash.
+    pub s: Seq<Vertex>,
+    /// The set behind it.
+    pub t: Seq<Vertex>,
+    /// The multiplier.
+    pub y: u128,
+}
+
+impl Model for RowLine {
+    ghost use Rattle.clu_rows.specs.Rows.{TwoSet};
+
+    ghost Value = { TwoSet };
+
+    ghost view = { λ r. record { s = r.s; t = r.t; y = r.y } };
+}
+
+impl RowLine {
+    /// Puts the row behind the others.
+    pub fn push_to(&self, rows: &mut Rows) -> Result<(), AllocError>
+        ensures { OnOk result (rows.new ≡ rows.old ++ self.now ∷ []) }
+    {
+        rows.push(self.s.as_slice(), self.t.as_slice(), self.y)
+    }
 }
 
 /// The labels that the fields are.
@@ -119,7 +148,7 @@ pub fn read_part(alloc: Global, line: &[u8]) -> Result<Seq<Vertex>, Fault>
 }
 
 /// The line `row`.
-pub fn read_row(alloc: Global, line: &[u8]) -> Result<Row, Fault>
+pub fn read_row(alloc: Global, line: &[u8]) -> Result<RowLine, Fault>
     ensures { ReadsOr row_line RowFits (fields_in line.now) result }
 {
     let Some(mut rest) = behind(line, b"row") else {
@@ -136,7 +165,7 @@ pub fn read_row(alloc: Global, line: &[u8]) -> Result<Row, Fault>
     if s.len() == 0 || t.len() == 0 {
         return Err(Fault::Bad);
     }
-    Ok(Row { s, t, y })
+    Ok(RowLine { s, t, y })
 }
 
 /// The first line of an item.

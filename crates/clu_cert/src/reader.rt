@@ -12,7 +12,7 @@ use crate::lines::{is_end, is_version, read_count, read_objective, read_step, re
 use crate::lists::{ItemLine, read_item, read_labels, read_part, read_row};
 use clu_objective::Objective;
 use clu_partition::Seq;
-use clu_rows::Leaf;
+use clu_rows::{Leaf, Rows};
 use std::alloc::{AllocError, Global};
 use std::mem;
 
@@ -81,7 +81,7 @@ impl Reader {
             },
             leaf: Leaf {
                 den: 0,
-                rows: Seq::new(alloc),
+                rows: Rows::new(alloc),
             },
         }
     }
@@ -297,7 +297,7 @@ impl Reader {
             ItemLine::Leaf(den, rows) => {
                 self.leaf = Leaf {
                     den,
-                    rows: Seq::new(alloc),
+                    rows: Rows::new(alloc),
                 };
                 self.stage = Stage::Row(parts, left, rows);
                 Ok(())
@@ -356,7 +356,7 @@ impl Reader {
             Ok(row) => row,
             Err(fault) => return Err(fault),
         };
-        self.leaf.rows.push(row)?;
+        row.push_to(&mut self.leaf.rows)?;
         self.stage = Stage::Row(parts, later, left);
         Ok(())
     }
@@ -369,7 +369,7 @@ impl Reader {
     {
         let blank = Leaf {
             den: 0,
-            rows: Seq::new(alloc),
+            rows: Rows::new(alloc),
         };
         let leaf = mem::replace(&mut self.leaf, blank);
         self.part.items.push(Item::Leaf(leaf))?;

@@ -1,4 +1,5 @@
-//! The text of a certificate, line by line, appended to one vector.
+//! The text of a certificate, line by line, appended to one vector. A number has one spelling, so a certificate has one
+//! text, from which `read_cert` gives it back.
 
 ghost use Rattle.std.specs.Prelude.{◌≡◌, ◌+◌, ◌++◌, [], ◌∷◌, map, codes, OnOk, IfOk};
 ghost use Rattle.std.specs.List.{flat_map};
@@ -10,7 +11,7 @@ use crate::certificate::{Certificate, Item, Proof};
 use clu_objective::Objective;
 use clu_partition::Vertex;
 use clu_reduce::{Kind, Step};
-use clu_rows::Row;
+use clu_rows::{Row, Rows};
 use clu_text::{push_number, push_u128};
 use std::alloc::{AllocError, Global};
 
@@ -121,18 +122,18 @@ fn push_row(out: &mut Vec<u8>, row: &Row) -> Result<(), AllocError>
 {
     out.extend_from_slice(b"row ")?;
     push_u128(out, row.y)?;
-    push_vertices(out, row.s.as_slice())?;
+    push_vertices(out, row.s)?;
     out.extend_from_slice(b" /")?;
-    push_vertices(out, row.t.as_slice())?;
+    push_vertices(out, row.t)?;
     out.push(b'\n')?;
     Ok(())
 }
 
-fn push_rows(out: &mut Vec<u8>, rows: &[Row]) -> Result<(), AllocError>
+fn push_rows(out: &mut Vec<u8>, rows: &Rows) -> Result<(), AllocError>
     ensures { OnOk result (out.new.items ≡ out.old.items ++ text_of (map row_line rows.now)) }
 {
-    for row in rows {
-        push_row(out, row)?;
+    for i in 0..rows.len() {
+        push_row(out, &rows.row(i))?;
     }
     Ok(())
 }
@@ -163,7 +164,7 @@ fn push_item(out: &mut Vec<u8>, item: &Item) -> Result<(), AllocError>
         Item::Reduce(step) => push_step(out, step),
         Item::Leaf(leaf) => {
             push_leaf_line(out, leaf.den, leaf.rows.len() as u64)?;
-            push_rows(out, leaf.rows.as_slice())
+            push_rows(out, &leaf.rows)
         }
     }
 }

@@ -1,8 +1,6 @@
-//! The conditions on the parts of a certificate: lists of vertices that divide no group of the state after
-//! the root steps and leave no free pair of positive weight between them. So no partition of the class is
-//! worth more than its restrictions to the parts together, and each part has a proof of its own.
-//!
-//! A table has the number of each vertex's part, so a vertex is looked up once for each pair.
+//! The conditions on the parts of a certificate: no group is divided, and no free pair of positive weight leaves a part.
+//! So no partition is worth more than its restrictions to the parts together, and each part has a proof of its own. A
+//! table has the number of each vertex's part, so a vertex is looked up once for each pair.
 
 ghost use Rattle.std.specs.Prelude.{◌≡◌, ◌≢◌, ◌<◌, ◌≤◌, ◌+◌, ◌⊎◌, ◌↔◌, [], ◌∷◌, ◌++◌, ℕ, List, All, Contains, IsTrue, IfErr, IfNone, IfOk, IfSome, OnOk, length, slice_index, map};
 ghost use Rattle.clu_partition.specs.Partition.{below};

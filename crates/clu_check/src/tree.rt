@@ -1,8 +1,6 @@
-//! Reading the items of a part's proof: whether they make a tree, and the greatest bound of its leaves.
-//!
-//! The items are the tree in preorder, so the open subtrees are told by one path of choices: each says
-//! whether its other subtree waits. One state goes along; it is built anew where a subtree ends, so what is
-//! kept grows with the depth of the tree and not with its size.
+//! Reading the items of a part's proof, a tree in preorder: whether they make one, and the greatest bound of its leaves.
+//! The open subtrees are one path of choices, of which each says whether its other side waits, and one state goes along,
+//! built anew where a subtree ends: so what is kept grows with the depth of the tree and not with its size.
 
 ghost use Rattle.std.specs.Prelude.{◌≡◌, ◌≤◌, ◌<◌, ◌↔◌, ◌⊎◌, ◌∷◌, ◌++◌, ◌≤ℤ◌, ℕ, ℤ, [], true, false, Some, None, length, slice_index, Contains, IfOk, OnOk, IfSome, IsNone, IsTrue, IsErrOf};
 ghost use Rattle.clu_state.specs.State.{State, IsState, IsFree, CanDecide, CanDecideAll, decided, undecided};

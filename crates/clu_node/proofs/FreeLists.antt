@@ -150,7 +150,5 @@ only_fixed : (s : State) → free_pairs s ≡ [] → leaf_bound_of s 1 [] ≡ fi
 only_fixed s e =
     ap (λ z. fixed_value s +ℤ floor_div (pos 0 +ℤ z) 1) (no_excess s 1 [] e) ∙ omega (arith, ints)
 
-pub settled : (s : State) (den : ℕ) (rows : List TwoSet) → free_pairs s ≡ [] → NoneFree s → den ≡ 1 → IsPacking s rows
-    → leaf_bound_of s den rows ≡ fixed_value s
-settled s den rows e none one packing =
-    ap (λ d. leaf_bound_of s d rows) one ∙ ap (leaf_bound_of s 1) (no_rows s rows none packing) ∙ only_fixed s e
+pub settled : (s : State) (rows : List TwoSet) → free_pairs s ≡ [] → NoneFree s → IsPacking s rows → leaf_bound_of s 1 rows ≡ fixed_value s
+settled s rows e none packing = ap (leaf_bound_of s 1) (no_rows s rows none packing) ∙ only_fixed s e

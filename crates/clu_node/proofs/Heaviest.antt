@@ -1,51 +1,20 @@
 -- The heaviest one of a list of pairs, found from the front.
-use Rattle.std.proofs.Common.{◌≡◌, ◌⊎◌, inl, inr, ℕ, ◌+◌, ◌<◌, ◌≤◌, max, List, [], ◌∷◌, length, get_or, drop, Bool, true, false, nat_lt, cond, All, refl, sym, ap, ◌∙◌, subst, arith}
+use Rattle.std.proofs.Common.{◌≡◌, ◌⊎◌, inl, inr, ℕ, ◌+◌, ◌-◌, ◌<◌, ◌≤◌, List, [], ◌∷◌, ◌++◌, length, get_or, take, drop, Bool, true, false, nat_lt, cond, All, Option, Some, None, IfSome, refl, sym, ap, ◌∙◌, subst, arith}
 use Rattle.std.proofs.lemmas.List.{drop_more, drop_all}
 use Rattle.std.proofs.lemmas.List.Elements.{All-cons, All-nil, All-head, All-tail}
 use Rattle.std.proofs.lemmas.Bool.Decides.{nat_tests}
 use Rattle.clu_partition.specs.Closed.{Precedes, AreRising}
-use Rattle.clu_state.specs.State.{State, free_pairs}
-use Rattle.clu_node.specs.Node.{IsHeaviest, size_of}
-
--- the second, where it weighs more in size
-abbrev pub heavier : State → ℕ × ℕ → ℕ × ℕ → ℕ × ℕ
-heavier s best pair = cond (nat_lt (size_of s best) (size_of s pair)) pair best
+use Rattle.clu_partition.proofs.ListLaws.{tail_is}
+use Rattle.clu_state.specs.State.{State, IsState, are_apart, group_leaders, free_with, free_of, free_pairs}
+use Rattle.clu_state.proofs.FreePairs.{all_free, IsFreePair}
+use Rattle.clu_node.specs.Node.{HasPair, IsHeaviest, size_of}
+use Rattle.clu_node.specs.Heavier.{heavier, heaviest_of}
+use Rattle.clu_node.proofs.FreeLists.{none_free, free_rising}
 
 -- the heaviest one of these and the best before them
-abbrev pub heaviest_from : State → ℕ × ℕ → List (ℕ × ℕ) → ℕ × ℕ
+abbrev heaviest_from : State → ℕ × ℕ → List (ℕ × ℕ) → ℕ × ℕ
 heaviest_from s best [] = best
-heaviest_from s best (pair ∷ pairs) = heaviest_from s (heavier s best pair) pairs
-
-size_heavier : (s : State) (best pair : ℕ × ℕ) (b : Bool) → nat_lt (size_of s best) (size_of s pair) ≡ b
-    → max (size_of s best) (size_of s pair) ≡ size_of s (cond b pair best)
-size_heavier s best pair true e = grind (arith, nat_tests)
-size_heavier s best pair false e = grind (arith, nat_tests)
-
--- what the loop keeps: the size of the best pair, and that it and those left have the heaviest one of all
-pub record Kept (s : State) (best : ℕ × ℕ) (most i : ℕ) (pairs : List (ℕ × ℕ)) (whole : ℕ × ℕ) : Type 0 where
-  pub size : most ≡ size_of s best
-  pub same : heaviest_from s best (drop i pairs) ≡ whole
-
-pub turn : (s : State) (best pair new : ℕ × ℕ) (most size top i : ℕ) (pairs : List (ℕ × ℕ)) (whole : ℕ × ℕ)
-    → i < length pairs → pair ≡ get_or pairs i pair → size ≡ size_of s pair → new ≡ cond (nat_lt most size) pair best → top ≡ max most size
-    → Kept s best most i pairs whole → Kept s new top (i + 1) pairs whole
-turn s best pair new most size top i pairs whole l is weighs e f k =
-    let is_next : new ≡ heavier s best pair =
-    e ∙ ap (λ m. cond (nat_lt m size) pair best) k.size ∙ ap (λ z. cond (nat_lt (size_of s best) z) pair best) weighs in
-    record {
-      size =
-          f ∙ ap (λ m. max m size) k.size ∙ ap (max (size_of s best)) weighs ∙
-          size_heavier s best pair (nat_lt (size_of s best) (size_of s pair)) refl ∙ ap (size_of s) (sym is_next);
-      same =
-          ap (λ p. heaviest_from s p (drop (i + 1) pairs)) is_next ∙
-          ap (λ p. heaviest_from s (heavier s best p) (drop (i + 1) pairs)) is ∙
-          ap (heaviest_from s best) (sym (drop_more pairs i pair l)) ∙
-          k.same;
-    }
-
-pub at_end : (s : State) (best : ℕ × ℕ) (most i : ℕ) (pairs : List (ℕ × ℕ)) (whole : ℕ × ℕ) → length pairs ≤ i
-    → Kept s best most i pairs whole → best ≡ whole
-at_end s best most i pairs whole l k = ap (heaviest_from s best) (sym (drop_all i pairs l)) ∙ k.same
+heaviest_from s best (pair ∷ pairs) = heaviest_from s (heavier s (Some best) pair) pairs
 
 -- ---- it is one of them
 either : (P : ℕ × ℕ → Type 0) (b : Bool) (p q : ℕ × ℕ) → P p → P q → P (cond b p q)
@@ -56,7 +25,7 @@ pub heaviest_has : (s : State) (P : ℕ × ℕ → Type 0) (best : ℕ × ℕ) (
     → P (heaviest_from s best pairs)
 heaviest_has s P best [] h all = h
 heaviest_has s P best (pair ∷ pairs) h all =
-    heaviest_has s P (heavier s best pair) pairs
+    heaviest_has s P (heavier s (Some best) pair) pairs
     (either P (nat_lt (size_of s best) (size_of s pair)) pair best (All-head P pair pairs all) h) (All-tail P pair pairs all)
 
 -- ---- none weighs more, and none before it as much
@@ -115,28 +84,71 @@ top_of s best pairs top are t = record {
   first = subst (All (NoEarlier s top)) are (All-cons (NoEarlier s top) best pairs (λ e. inl (t.kept e)) t.first);
 }
 
-pub is_heaviest : (s : State) (all : List (ℕ × ℕ)) (best : ℕ × ℕ) (pairs : List (ℕ × ℕ)) (top : ℕ × ℕ)
-    → all ≡ free_pairs s → all ≡ best ∷ pairs → AreRising (free_pairs s) → top ≡ heaviest_from s best pairs → IsHeaviest s top
-is_heaviest s all best pairs top free split up is =
-    subst (IsHeaviest s) (sym is)
-    (top_of s best pairs (heaviest_from s best pairs) (sym split ∙ free) (tops s best pairs (subst AreRising (sym free ∙ split) up)))
+-- ---- what a walk over the pairs finds
+found_from : (s : State) (best : ℕ × ℕ) (pairs : List (ℕ × ℕ)) → heaviest_of s (Some best) pairs ≡ Some (heaviest_from s best pairs)
+found_from s best [] = refl
+found_from s best (pair ∷ pairs) = found_from s (heavier s (Some best) pair) pairs
 
--- ---- the pairs of a list that is a first one and the rest
-pub at_first : (P : ℕ × ℕ → Type 0) (all free : List (ℕ × ℕ)) (best : ℕ × ℕ) (pairs : List (ℕ × ℕ))
-    → all ≡ free → all ≡ best ∷ pairs → All P free → P best
-at_first P all free best pairs is split h = All-head P best pairs (subst (All P) (sym is ∙ split) h)
+heaviest_in : (s : State) (all : List (ℕ × ℕ)) → all ≡ free_pairs s → AreRising all → IfSome (heaviest_of s None all) (IsHeaviest s)
+heaviest_in s [] e up = tt
+heaviest_in s (best ∷ pairs) e up =
+    subst (λ r. IfSome r (IsHeaviest s)) (sym (found_from s best pairs))
+    (top_of s best pairs (heaviest_from s best pairs) e (tops s best pairs up))
 
-pub at_rest : (P : ℕ × ℕ → Type 0) (all free : List (ℕ × ℕ)) (best : ℕ × ℕ) (pairs : List (ℕ × ℕ))
-    → all ≡ free → all ≡ best ∷ pairs → All P free → All P pairs
-at_rest P all free best pairs is split h = All-tail P best pairs (subst (All P) (sym is ∙ split) h)
+pub is_heaviest : (s : State) (r : Option (ℕ × ℕ)) → IsState s → r ≡ heaviest_of s None (free_pairs s) → IfSome r (IsHeaviest s)
+is_heaviest s r h e = subst (λ r. IfSome r (IsHeaviest s)) (sym e) (heaviest_in s (free_pairs s) refl (free_rising s h))
 
-pub at_turn : (P : ℕ × ℕ → Type 0) (pairs : List (ℕ × ℕ)) (i : ℕ) (pair : ℕ × ℕ) → i < length pairs → pair ≡ get_or pairs i pair
-    → All P pairs → P pair
-at_turn P pairs i pair l is h = subst P (sym is) (h i pair l)
+free_in : (s : State) (all : List (ℕ × ℕ)) → IsState s → all ≡ free_pairs s → All (IsFreePair s) all → HasPair s (heaviest_of s None all)
+free_in s [] h e free = none_free s h (sym e)
+free_in s (best ∷ pairs) h e free =
+    subst (HasPair s) (sym (found_from s best pairs))
+    (heaviest_has s (IsFreePair s) best pairs (All-head (IsFreePair s) best pairs free) (All-tail (IsFreePair s) best pairs free))
 
-pub none_listed : (all free : List (ℕ × ℕ)) → all ≡ free → length all ≡ 0 → free ≡ []
-none_listed all free is none = sym is ∙ empty all none
+pub has_pair : (s : State) (r : Option (ℕ × ℕ)) → IsState s → r ≡ heaviest_of s None (free_pairs s) → HasPair s r
+has_pair s r h e = subst (HasPair s) (sym e) (free_in s (free_pairs s) h refl (all_free s h))
+
+none_in : (s : State) (all : List (ℕ × ℕ)) → heaviest_of s None all ≡ None → all ≡ []
+none_in s [] e = refl
+none_in s (best ∷ pairs) e = absurd (some_one (heaviest_from s best pairs) (sym (found_from s best pairs) ∙ e))
   where
-    empty : (xs : List (ℕ × ℕ)) → length xs ≡ 0 → xs ≡ []
-    empty [] e = refl
-    empty (x ∷ xs) e = absurd (omega (arith, e))
+    some_one : (p : ℕ × ℕ) → Some p ≡ None → ⊥
+    some_one p e = cc
+
+pub none_found : (s : State) (r : Option (ℕ × ℕ)) → r ≡ heaviest_of s None (free_pairs s) → r ≡ None → free_pairs s ≡ []
+none_found s r e n = none_in s (free_pairs s) (sym e ∙ n)
+
+-- ---- one step of the walk
+found_append : (s : State) (best : Option (ℕ × ℕ)) (xs ys : List (ℕ × ℕ)) → heaviest_of s best (xs ++ ys) ≡ heaviest_of s (heaviest_of s best xs) ys
+found_append s best [] ys = refl
+found_append s best (x ∷ xs) ys = found_append s (Some (heavier s best x)) xs ys
+
+found_unless : (s : State) (best : Option (ℕ × ℕ)) (apart : Bool) (p : ℕ × ℕ) (pairs : List (ℕ × ℕ))
+    → heaviest_of s best (cond apart pairs (p ∷ pairs)) ≡ heaviest_of s (heaviest_of s best (cond apart [] (p ∷ []))) pairs
+found_unless s best true p pairs = refl
+found_unless s best false p pairs = refl
+
+-- a later group more
+pub next_with : (s : State) (old new whole : Option (ℕ × ℕ)) (a b i : ℕ) (later : List ℕ) → i < length later → b ≡ get_or later i b
+    → new ≡ heaviest_of s old (free_with s a (b ∷ [])) → heaviest_of s old (free_with s a (drop i later)) ≡ whole
+    → heaviest_of s new (free_with s a (drop (i + 1) later)) ≡ whole
+next_with s old new whole a b i later l is e k =
+    ap (λ r. heaviest_of s r (free_with s a (drop (i + 1) later))) e ∙
+    sym (found_unless s old (are_apart s a b) (a, b) (free_with s a (drop (i + 1) later))) ∙
+    ap (λ bs. heaviest_of s old (free_with s a bs)) (sym (drop_more later i b l ∙ ap (λ x. x ∷ drop (i + 1) later) (sym is))) ∙
+    k
+
+-- a group more, with all later ones
+pub next_group : (s : State) (old new whole : Option (ℕ × ℕ)) (a i : ℕ) (groups : List ℕ) → i < length groups → a ≡ get_or groups i a
+    → new ≡ heaviest_of s old (free_with s a (take (length groups - (i + 1)) (drop (i + 1) groups)))
+    → heaviest_of s old (free_of s (drop i groups)) ≡ whole → heaviest_of s new (free_of s (drop (i + 1) groups)) ≡ whole
+next_group s old new whole a i groups l is e k =
+    ap (λ r. heaviest_of s r (free_of s (drop (i + 1) groups))) (e ∙ ap (λ gs. heaviest_of s old (free_with s a gs)) (tail_is (i + 1) groups)) ∙
+    sym (found_append s old (free_with s a (drop (i + 1) groups)) (free_of s (drop (i + 1) groups))) ∙
+    ap (λ gs. heaviest_of s old (free_of s gs)) (sym (drop_more groups i a l ∙ ap (λ x. x ∷ drop (i + 1) groups) (sym is))) ∙
+    k
+
+-- after the last group
+pub all_visited : (s : State) (r : Option (ℕ × ℕ)) (i : ℕ) (groups : List ℕ) → groups ≡ group_leaders s → length groups ≤ i
+    → heaviest_of s r (free_of s (drop i groups)) ≡ heaviest_of s None (free_of s groups) → r ≡ heaviest_of s None (free_pairs s)
+all_visited s r i groups is l e =
+    ap (λ gs. heaviest_of s r (free_of s gs)) (sym (drop_all i groups l)) ∙ e ∙ ap (λ gs. heaviest_of s None (free_of s gs)) is

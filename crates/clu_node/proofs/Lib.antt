@@ -1,3 +1,2 @@
-pub mod Faultless
 pub mod Heaviest
 pub mod FreeLists

@@ -1,15 +1,15 @@
-ghost use Rattle.std.specs.Prelude.{◌≡◌, ◌↔◌, ◌≤◌, ◌^◌, ℕ, ◌≤ℤ◌, IfOk, IfSome, OnErr, unsigned_abs};
+//! What bounds a node and on which pair it would be split: a maximal packing of bad triangles, whose dual bound closes the node where
+//! it is at most the best value known, and the heaviest free pair.
+ghost use Rattle.std.specs.Prelude.{◌≡◌, ◌↔◌, ◌≤◌, ◌^◌, ℕ, ◌≤ℤ◌, IfOk, IfSome, unsigned_abs};
 ghost use Rattle.clu_partition.specs.Pairs.{weight_of};
 ghost use Rattle.clu_partition.specs.Values.{value_on};
 ghost use Rattle.clu_state.specs.State.{InClass, fixed_value};
-ghost use Rattle.clu_rows.specs.Faults.{AreRows};
 ghost use Rattle.clu_rows.specs.Packing.{IsPacking, IsMaximal};
-ghost use Rattle.clu_rows.specs.Rows.{leaf_bound_of};
 ghost use Rattle.clu_node.specs.Node.{IsBounded, IsHeaviest};
 
 use crate::pair::heaviest;
 use clu_partition::Vertex;
-use clu_rows::{Leaf, LeafFault, Residual, leaf_bound, pack};
+use clu_rows::{Leaf, PackedLeaf, Scratch, pack};
 use clu_state::Situation;
 use std::alloc::{AllocError, Global};
 
@@ -35,41 +35,14 @@ pub struct NodeBound {
     pub pair: Option<(Vertex, Vertex)>,
 }
 
-/// How a bound stands to the best value known.
-fn how_of(bound: i128, best: i128) -> How
-    ensures { (result ≡ How.Closed) ↔ (bound ≤ℤ best) }
-{
-    if bound <= best {
-        How::Closed
-    } else {
-        How::Unclosed
-    }
-}
-
-/// The bound of a leaf of rows without a fault, over 1.
-fn bound_of<S: Situation>(state: &S, leaf: &Leaf, scratch: &mut Residual) -> i128
-    requires room { (S.state state.now).pairs.n ≤ scratch.old.n }
-    requires den { leaf.now.den ≡ 1 }
-    requires rows { AreRows (S.state state.now) leaf.now.rows }
-    ensures value { result ≡ leaf_bound_of (S.state state.now) leaf.now.den leaf.now.rows }
-    ensures sound { (label : ℕ → ℕ) → InClass (S.state state.now) label
-        → value_on (weight_of (S.state state.now).pairs) label (S.state state.now).members ≤ℤ result }
-    ensures room { scratch.new.n ≡ scratch.old.n }
-{
-    match leaf_bound(state, leaf, scratch) {
-        Ok(bound) => bound,
-        Err(LeafFault::Den | LeafFault::Row { .. }) => unreachable!(),
-    }
-}
-
 /// Packs triangles, and names the free pair of greatest absolute weight between its groups, ties by
-/// the least pair. `scratch` has room for the problem's vertices, and what it holds doesn't matter; it
-/// holds it still where there is no memory.
+/// the least pair. `scratch` has room for the problem's vertices, and what it holds doesn't matter.
+/// The only error is want of memory.
 pub fn bound_node<S: Situation>(
     alloc: Global,
     state: &S,
     best: i128,
-    scratch: &mut Residual,
+    scratch: &mut Scratch,
 ) -> Result<NodeBound, AllocError>
     requires { (S.state state.now).pairs.n ≤ scratch.old.n }
     ensures bounded { IfOk result (λ node. IsBounded (S.state state.now) node) }
@@ -84,13 +57,10 @@ pub fn bound_node<S: Situation>(
     ensures heaviest { IfOk result (λ node. IfSome node.pair (IsHeaviest (S.state state.now))) }
     ensures settled { IfOk result (λ node. node.pair ≡ None
         → node.bound ≡ fixed_value (S.state state.now)) }
-    ensures room { scratch.new.n ≡ scratch.old.n }
-    ensures kept { OnErr result (scratch.new ≡ scratch.old) }
+    ensures room { scratch.new ≡ scratch.old }
 {
-    let leaf = pack(alloc, state)?;
-    let pairs = state.free_pairs(alloc)?;
-    let pair = heaviest(state, pairs.as_slice());
-    let bound = bound_of(state, &leaf, scratch);
+    let PackedLeaf { leaf, bound } = pack(alloc, state, scratch)?;
+    let pair = heaviest(alloc, state)?;
     let how = how_of(bound, best);
     Ok(NodeBound {
         leaf,
@@ -98,4 +68,15 @@ pub fn bound_node<S: Situation>(
         how,
         pair,
     })
+}
+
+/// How a bound stands to the best value known.
+fn how_of(bound: i128, best: i128) -> How
+    ensures { (result ≡ How.Closed) ↔ (bound ≤ℤ best) }
+{
+    if bound <= best {
+        How::Closed
+    } else {
+        How::Unclosed
+    }
 }

@@ -1,50 +1,85 @@
-ghost use Rattle.std.specs.Prelude.{◌≡◌, ℕ, [], IfSome, if◌then◌else◌, nat_lt};
-ghost use Rattle.clu_state.specs.State.{IsFree, free_pairs};
+//! The pair of groups on which a node would be split: of the free pairs the heaviest one, so that both decisions change the bound
+//! most. One walk over the pairs of groups finds it, and no list of them is made.
+ghost use Rattle.std.specs.Prelude.{◌≡◌, ◌≢◌, ℕ, [], ◌∷◌, All, Contains, IfOk, IfSome, Some};
+ghost use Rattle.clu_state.specs.State.{State, leader, free_pairs, free_with};
 ghost use Rattle.clu_node.specs.Node.{HasPair, IsHeaviest, size_of};
+ghost use Rattle.clu_node.specs.Heavier.{IsSized, heavier, heaviest_of};
 
 use clu_partition::Vertex;
 use clu_state::Situation;
-
-/// How far the weight between the groups of a free pair is from 0.
-fn size<S: Situation>(state: &S, pair: &(Vertex, Vertex)) -> u128
-    requires { IsFree (S.state state.now) pair.now.0 pair.now.1 }
-    ensures { result ≡ size_of (S.state state.now) pair.now }
-{
-    state.weight(pair.0, pair.1).unsigned_abs()
-}
-
-/// The pair, where its size is above that of the best one before it, else that one.
-fn heavier<'a>(
-    best: &'a (Vertex, Vertex),
-    most: u128,
-    pair: &'a (Vertex, Vertex),
-    size: u128,
-) -> &'a (Vertex, Vertex)
-    ensures { result.now ≡ (if nat_lt most size then pair.now else best.now) }
-{
-    if size > most { pair } else { best }
-}
+use std::alloc::{AllocError, Global};
 
 /// Of the state's free pairs the one of greatest absolute weight between its groups, ties by the
-/// least pair.
+/// least pair. The only error is want of memory.
 pub(crate) fn heaviest<S: Situation>(
+    alloc: Global,
     state: &S,
-    pairs: &[(Vertex, Vertex)],
-) -> Option<(Vertex, Vertex)>
-    requires { pairs.now ≡ free_pairs (S.state state.now) }
-    ensures pair { HasPair (S.state state.now) result }
-    ensures heaviest { IfSome result (IsHeaviest (S.state state.now)) }
-    ensures none { result ≡ None → free_pairs (S.state state.now) ≡ [] }
+) -> Result<Option<(Vertex, Vertex)>, AllocError>
+    ensures pair { IfOk result (HasPair (S.state state.now)) }
+    ensures heaviest { IfOk result (λ pair. IfSome pair (IsHeaviest (S.state state.now))) }
+    ensures none { IfOk result (λ pair. pair ≡ None → free_pairs (S.state state.now) ≡ []) }
 {
-    let _members = state.members();
-    let Some((mut best, rest)) = pairs.split_first() else {
-        return None;
+    let leaders = state.leaders(alloc)?;
+    let groups = leaders.as_slice();
+    let mut candidate = Candidate {
+        pair: None,
+        size: 0,
     };
-    let mut most = size(state, best);
-    for pair in rest {
-        let size = size(state, pair);
-        best = heavier(best, most, pair, size);
-        most = most.max(size);
+    for i in 0..groups.len() {
+        candidate.visit_with(state, groups[i], &groups[i + 1..]);
     }
-    Some(*best)
+    Ok(candidate.pair)
+}
+
+/// The heaviest one of the free pairs visited so far, and how far its weight is from 0.
+#[derive(Drop)]
+struct Candidate {
+    pair: Option<(Vertex, Vertex)>,
+    size: u128,
+}
+
+impl Candidate {
+    /// Visits the pairs of a group with later ones.
+    fn visit_with<S: Situation>(&mut self, state: &S, a: Vertex, later: &[Vertex])
+        requires first { Contains (S.state state.now).members a }
+        requires members { All (Contains (S.state state.now).members) later.now }
+        requires differ { All (λ b. leader (S.state state.now) a
+            ≢ leader (S.state state.now) b) later.now }
+        requires sized { IsSized (S.state state.now) self.old.pair self.old.size }
+        ensures sized { IsSized (S.state state.now) self.new.pair self.new.size }
+        ensures pair { self.new.pair ≡ heaviest_of (S.state state.now) self.old.pair
+            (free_with (S.state state.now) a later.now) }
+    {
+        for b in later {
+            self.visit(state, a, *b);
+        }
+    }
+
+    /// Takes the pair of two groups where it is free and heavier.
+    fn visit<S: Situation>(&mut self, state: &S, a: Vertex, b: Vertex)
+        requires first { Contains (S.state state.now).members a }
+        requires second { Contains (S.state state.now).members b }
+        requires differ { leader (S.state state.now) a ≢ leader (S.state state.now) b }
+        requires sized { IsSized (S.state state.now) self.old.pair self.old.size }
+        ensures sized { IsSized (S.state state.now) self.new.pair self.new.size }
+        ensures pair { self.new.pair ≡ heaviest_of (S.state state.now) self.old.pair
+            (free_with (S.state state.now) a (b ∷ [])) }
+    {
+        if state.is_apart(a, b) {
+            return;
+        }
+        let size = state.weight(a, b).unsigned_abs();
+        self.offer((a, b), size);
+    }
+
+    /// Takes the pair where it is the first one or weighs more in size.
+    fn offer(&mut self, pair: (Vertex, Vertex), size: u128)
+        ensures { (s : State) → size ≡ size_of s pair → IsSized s self.old.pair self.old.size
+            → IsSized s self.new.pair self.new.size × (self.new.pair ≡ Some (heavier s self.old.pair pair)) }
+    {
+        if self.pair.is_none() || size > self.size {
+            self.pair = Some(pair);
+            self.size = size;
+        }
+    }
 }

@@ -14,7 +14,10 @@ pub mod Adding
 pub mod Spent
 pub mod Sound
 pub mod PackSizes
+pub mod PackBound
 pub mod Thirds
+pub mod NearLaws
+mod FlatLaws
 mod FaultLaws
 mod RowLaws
 pub mod BoundLaws

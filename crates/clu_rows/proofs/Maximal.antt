@@ -1,5 +1,5 @@
 -- When no triple is left, the packing is maximal.
-use Rattle.std.proofs.Common.{◌≡◌, ◌≢◌, ◌⊎◌, inl, inr, ⊎_elim, ℕ, ◌<◌, ◌≤◌, ◌+◌, ℤ, pos, neg_ℤ, ◌≤ℤ◌, ◌<ℤ◌, ◌-ℤ◌, List, [], length, slice_index, Bool, true, false, not, Contains, refl, sym, ap, ◌∙◌, subst, arith}
+use Rattle.std.proofs.Common.{◌≤◌, ◌≡◌, ◌≢◌, ◌⊎◌, inl, inr, ⊎_elim, ℕ, ◌<◌, ◌+◌, ℤ, pos, neg_ℤ, ◌≤ℤ◌, ◌<ℤ◌, ◌-ℤ◌, List, [], length, slice_index, Bool, true, false, not, Contains, refl, sym, ap, ◌∙◌, subst, arith}
 use Rattle.std.proofs.lemmas.Int.{ints}
 use Rattle.std.proofs.lemmas.Bool.{cases_eq, true≢false, false≢true}
 use Rattle.std.proofs.lemmas.Grind.{get_or_default_zero}
@@ -76,7 +76,7 @@ maximal s groups left rows p h = λ a b c t can.
     (opposed (are_apart s (slice_index groups j.at') (slice_index groups k.at')) _ _ (p.agrees j.at' k.at' j.below k.below jk) can'.third)
 
 -- ---- the table before the first triangle
-pub first_table : (s : State) (groups : List ℕ) (left : Pairs) → IsState s → groups ≡ group_leaders s → left.n ≡ length groups →
+pub first_table : (s : State) (groups : List ℕ) (left : Pairs) → IsState s → groups ≡ group_leaders s → length groups ≤ left.n →
     ((x z : ℕ) → x < z → z < length groups → weight_of left x z ≡ only_if (not (are_apart s (slice_index groups x) (slice_index groups z))) (group_weight s (slice_index groups x) (slice_index groups z))) → Packed s groups left []
 first_table s groups left i e n h = record {
   state = i;
@@ -94,14 +94,14 @@ first_table s groups left i e n h = record {
     less_nothing w = omega (arith, ints)
 
 -- ---- filling the table
-pub row_more : (s : State) (groups : List ℕ) (start old new : Pairs) (i j : ℕ) (w : ℤ) (f : ℕ → ℕ → ℤ) → old.n ≡ length groups → length old.weights ≡ old.n * old.n → i < j → j < length groups →
+pub row_more : (s : State) (groups : List ℕ) (start old new : Pairs) (i j : ℕ) (w : ℤ) (f : ℕ → ℕ → ℤ) → length groups ≤ old.n → length old.weights ≡ old.n * old.n → i < j → j < length groups →
     new ≡ with_weight old i j w → w ≡ f i j → ((z : ℕ) → i < z → z < j → weight_of old i z ≡ f i z) → (z : ℕ) → i < z → z < j + 1 → weight_of new i z ≡ f i z
 row_more s groups start old new i j w f n p ij jl e v h z iz zj = subst (λ (t : Pairs). weight_of t i z ≡ f i z) (sym e) (⊎_elim
     (λ q. subst (λ z. weight_of (with_weight old i j w) i z ≡ f i z) (sym q) (set_same old i j w (omega (arith, n)) (omega (arith, n)) (λ r. omega (arith, r, ij)) p ∙ v))
     (λ d. set_other old i j i z w (omega (arith, n)) (omega (arith, n)) (omega (arith, n)) (omega (arith, n)) (λ k. let a = k.0 in let b = k.1 in omega (arith, a, b, d, ij, iz)) ∙ h z iz (omega (arith, d)))
     (cases_eq z j))
 
-pub row_others : (old new : Pairs) (n i j x z : ℕ) (w : ℤ) → old.n ≡ n → i < j → j < n → x < i → x < z → z < n → new ≡ with_weight old i j w → weight_of new x z ≡ weight_of old x z
+pub row_others : (old new : Pairs) (n i j x z : ℕ) (w : ℤ) → n ≤ old.n → i < j → j < n → x < i → x < z → z < n → new ≡ with_weight old i j w → weight_of new x z ≡ weight_of old x z
 row_others old new n i j x z w e ij jn xi xz zn f = subst (λ (t : Pairs). weight_of t x z ≡ weight_of old x z) (sym f) (set_other old i j x z w (omega (arith, e)) (omega (arith, e)) (omega (arith, e)) (omega (arith, e)) (λ k. let a = k.0 in let b = k.1 in omega (arith, a, b, ij, xi, xz)))
 
 pub row_places : (old new : Pairs) (i j : ℕ) (w : ℤ) → length old.weights ≡ old.n * old.n → new ≡ with_weight old i j w → length new.weights ≡ new.n * new.n

@@ -103,7 +103,7 @@ packed_next s groups old new rows a b c y d p la lb lc ab ac bc py yb yc third c
     record {
       state = p.state;
       groups_are = p.groups_are;
-      size = ch.size ∙ p.size;
+      size = let k = ch.size in let l = p.size in omega (arith, k, l);
       agrees = λ x z lx lz xz. by_pair (λ x z. weight_of new x z ≡ only_if (not (are_apart s (slice_index groups x) (slice_index groups z))) (left_of s (rows ++ triangle (slice_index groups a) (slice_index groups b) (slice_index groups c) y ∷ []) (slice_index groups x) (slice_index groups z))) a b c x z
           (at_lower (are_apart s u v) y _ _ _ _ _ py yb f (p.agrees a b la lb ab) (after a b) sg.one_two)
           (at_lower (are_apart s v u) y _ _ _ _ _ py yb' f' (p.agrees b a lb la ba) (after b a) sg.two_one)

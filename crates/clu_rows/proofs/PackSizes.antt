@@ -11,7 +11,8 @@ use Rattle.clu_state.specs.State.{State, IsState, leader, are_apart, group_leade
 use Rattle.clu_state.proofs.Bridge.{state_are_groups, below_all}
 use Rattle.clu_state.proofs.Bounds.{size_of, whole_small}
 use Rattle.clu_rows.specs.Rows.{TwoSet, priced, row_limit, excess, leaf_bound_of, floor_div}
-use Rattle.clu_rows.specs.Packing.{triangle, IsPacking}
+use Rattle.clu_partition.specs.Values.{value_on}
+use Rattle.clu_rows.specs.Packing.{triangle, IsPacking, excess_of}
 use Rattle.clu_rows.specs.Packing.IsPacking.{nothing, one_more}
 use Rattle.clu_rows.proofs.Spent.{gain_left, spent, spent_least, y_of, y_more}
 use Rattle.clu_state.proofs.GroupLaws.{lead_weight}
@@ -32,7 +33,7 @@ limit_is s (one_more {rows} {a} {b} {c} {y} p t l can) =
     let k = y_more rows a b c y in
     omega (arith, ints, h, e, k)
 
-floor_one : (z : ℤ) → floor_div z 1 ≡ z
+pub floor_one : (z : ℤ) → floor_div z 1 ≡ z
 floor_one (pos n) = ap pos (div-one n)
 floor_one (negsuc n) = ap negsuc (div-one n)
 
@@ -40,7 +41,7 @@ one_times : (w q : ℤ) → pos 1 *ℤ w -ℤ q ≡ w -ℤ q
 one_times w q = omega (arith, ints)
 
 -- what the rows leave uncovered, with the denominator 1
-excess_is : (s : State) (rows : List TwoSet) → excess (weight_of s.pairs) (leader s) (are_apart s) s.members 1 rows ≡ pair_total (gain_left s rows) (group_leaders s)
+pub excess_is : (s : State) (rows : List TwoSet) → excess (weight_of s.pairs) (leader s) (are_apart s) s.members 1 rows ≡ pair_total (gain_left s rows) (group_leaders s)
 excess_is s rows =
     pair_cong_on (λ a b. only_if (not (are_apart s a b)) (pos (positive (pos 1 *ℤ between (weight_of s.pairs) (leader s) s.members a b -ℤ priced (leader s) rows a b))))
     (gain_left s rows) (λ a. leader s a ≡ a) (group_leaders s) (leaders_lead (leader s) s.members)
@@ -58,6 +59,20 @@ y_least : (rows : List TwoSet) → pos 0 ≤ℤ total y_of rows
 unfolding y_of
 y_least [] = omega (arith, ints)
 y_least (r ∷ rows) = let h = y_least rows in let z = zero_least r.y in omega (arith, ints, h, z)
+
+-- the multipliers and what is left, together: each is at least 0, so both are within the total
+pub excess_small : (s : State) → IsState s → (rows : List TwoSet) → IsPacking s rows → ((pos 0 ≤ℤ excess_of s rows) × (pos 0 ≤ℤ row_limit rows)) × ((excess_of s rows +ℤ row_limit rows) ≤ℤ pos (2 ^ 88))
+excess_small s i rows p =
+    let l = limit_is s p in
+    let e = excess_is s rows in
+    let h = spent s i p in
+    let k = first_size s in
+    let w = whole_small (weight_of s.pairs) (weight_sym s.pairs) (leader s) s.members s.pairs.n (state_are_groups s i) (below_all s i) in
+    let z = zero_least (unsigned_abs (value_on (weight_of s.pairs) (leader s) s.members)) in
+    let t = i.total in
+    let m = spent_least s rows in
+    let y = y_least rows in
+    ((omega (arith, ints, e, m), omega (arith, ints, l, y)), omega (arith, ints, l, e, h, k, w, t, z))
 
 pub pack_size : (s : State) → IsState s → (rows : List TwoSet) → IsPacking s rows → unsigned_abs (leaf_bound_of s 1 rows) ≤ 2 ^ 88
 pack_size s i rows p =

@@ -116,14 +116,14 @@ multiplier_small r p h =
 pub multiplier_of : (r : TwoSet) (y : ℕ) (ss ts : List ℕ) → record { s = ss; t = ts; y = y } ≡ r → 0 < length r.s → r.y * (length r.s + length r.t) ^ 2 ≤ 2 ^ 120 → y ≤ 2 ^ 120
 multiplier_of r y ss ts e p h = let m = multiplier_small r p h in let v = ap (λ (r : TwoSet). r.y) e in omega (arith, m, v)
 
-pub added_of : (r : TwoSet) (y : ℕ) (vs ws ss ts : List ℕ) → vs ≡ ss → ws ≡ ts → record { s = ss; t = ts; y = y } ≡ r → 0 < length r.s → r.y * (length r.s + length r.t) ^ 2 ≤ 2 ^ 120 →
-    Added r vs ws (to_z w128 y) (to_z w128 (of_z w128 (pos 0 -ℤ to_z w128 y)))
-added_of r y vs ws ss ts ev ew e p h =
+pub added_of : (r : TwoSet) (y : ℕ) (ss ts : List ℕ) → record { s = ss; t = ts; y = y } ≡ r → 0 < length r.s → r.y * (length r.s + length r.t) ^ 2 ≤ 2 ^ 120 →
+    Added r ss ts (to_z w128 y) (to_z w128 (of_z w128 (pos 0 -ℤ to_z w128 y)))
+added_of r y ss ts e p h =
     let m = multiplier_of r y ss ts e p h in
     let v = ap (λ (r : TwoSet). r.y) e in
     record {
-      first = ev ∙ ap (λ (r : TwoSet). r.s) e;
-      second = ew ∙ ap (λ (r : TwoSet). r.t) e;
+      first = ap (λ (r : TwoSet). r.s) e;
+      second = ap (λ (r : TwoSet). r.t) e;
       more = omega (arith, ints, m, v);
       less = omega (arith, ints, m, v);
     }

@@ -31,7 +31,7 @@ pair_le_rising : (f g : ℕ → ℕ → ℤ) (xs : List ℕ) → Rising xs → (
 pair_le_rising f g [] r h = omega (arith, ints)
 pair_le_rising f g (x ∷ xs) r h = let a = pair_le_rising f g xs r.1 h in let b = total_le (f x) (g x) (λ z. x < z) xs r.0 (λ z l. h x z l) in omega (arith, ints, a, b)
 
-pair_drop : (f g : ℕ → ℕ → ℤ) (y u v : ℕ) (xs : List ℕ) → Rising xs → ((x z : ℕ) → x < z → f x z ≤ℤ g x z) → u < v → (f u v +ℤ pos y) ≤ℤ g u v → Among u xs → Among v xs → (pair_total f xs +ℤ pos y) ≤ℤ pair_total g xs
+pub pair_drop : (f g : ℕ → ℕ → ℤ) (y u v : ℕ) (xs : List ℕ) → Rising xs → ((x z : ℕ) → x < z → f x z ≤ℤ g x z) → u < v → (f u v +ℤ pos y) ≤ℤ g u v → Among u xs → Among v xs → (pair_total f xs +ℤ pos y) ≤ℤ pair_total g xs
 pair_drop f g y u v [] r h l d m n = absurd m
 pair_drop f g y u v (x ∷ xs) r h l d m n = ⊎_elim
     (λ q. ⊎_elim

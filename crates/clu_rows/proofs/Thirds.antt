@@ -1,15 +1,14 @@
 -- The triples that need no visit.
-use Rattle.std.proofs.Common.{◌≡◌, ◌⊎◌, ◌↔◌, inl, inr, ⊎_elim, ℕ, ◌<◌, ◌≤◌, ◌+◌, ℤ, pos, negsuc, ◌≤ℤ◌, ◌<ℤ◌, List, [], ◌∷◌, ◌++◌, length, get_or, sym, ap, ◌∙◌, subst, arith, All, zero, suc, slice_index, Bool, true, false, not}
+use Rattle.std.proofs.Common.{◌≡◌, ◌⊎◌, ◌↔◌, inl, inr, ⊎_elim, ℕ, ◌<◌, ◌≤◌, ◌+◌, ℤ, pos, negsuc, ◌≤ℤ◌, ◌<ℤ◌, List, length, get_or, sym, ap, ◌∙◌, subst, arith, All, zero, suc, slice_index, Bool, true, false, not}
 use Rattle.std.proofs.lemmas.Int.{ints}
 use Rattle.std.proofs.lemmas.Bool.{cases_eq}
 use Rattle.std.proofs.lemmas.Grind.{get_or_default_zero}
-use Rattle.std.proofs.lemmas.List.{get_or_default, get_or_push, get_or_append_left, length-append}
 use Rattle.clu_rows.specs.Rows.{TwoSet}
 use Rattle.clu_partition.specs.Pairs.{Pairs, weight_of}
 use Rattle.clu_partition.proofs.TableLaws.{weight_sym}
 use Rattle.clu_state.specs.State.{State, are_apart}
 use Rattle.clu_partition.specs.Sums.{only_if}
-use Rattle.clu_rows.specs.Table.{Packed, Nearer, Settled, Allied, AreNear, AreAllNear}
+use Rattle.clu_rows.specs.Table.{Packed, Nearer, Settled, Allied, AreNear}
 use Rattle.clu_rows.proofs.Steps.{settled_second, settled_third, settled_stays}
 
 -- with fewer than two pairs above 0 no centre can be applied
@@ -58,28 +57,6 @@ near_more s groups near old new r0 r1 i j n k p q f ij jl w nl at' done here m m
     (λ e. subst (Settled s groups new i j) (sym (ap (λ t. get_or near t 0) e ∙ at')) here)
     (λ d. let b = (w m 0 (omega (arith, ml, nl))).1 in settled_stays s groups old new i j (get_or near m 0) f (omega (arith, size)) (omega (arith, size)) (omega (arith, size, b)) (done m (omega (arith, ml, d))))
     (cases_eq m n)
-
--- ---- the lists
-pub near_at : (left : Pairs) (count i : ℕ) (lists : List (List ℕ)) (item near : List ℕ) → AreAllNear left count lists → i < count → item ≡ get_or lists i item → near ≡ item → AreNear left count i near
-near_at left count i lists item near a l e f = let size = a.size in subst (AreNear left count i) (sym (f ∙ e ∙ get_or_default lists i item [] (omega (arith, size, l)))) (a.each i l)
-
-near_stays : (left new : Pairs) (count i : ℕ) (near : List ℕ) → count ≤ left.n → i < count → Nearer left new → AreNear left count i near → AreNear new count i near
-near_stays left new count i near l ic f a = record { within = a.within; all = λ z iz zc h. a.all z iz zc ((f i z (omega (arith, l)) (omega (arith, l))).0 h) }
-
-pub lists_size : (lists more : List (List ℕ)) (near : List ℕ) (i : ℕ) → length lists ≡ i → more ≡ lists ++ near ∷ [] → length more ≡ i + 1
-lists_size lists more near i l e = let m = ap (λ (xs : List (List ℕ)). length xs) e in let n = length-append lists (near ∷ []) in omega (arith, l, m, n)
-
-pub lists_more : (left : Pairs) (count i : ℕ) (lists more : List (List ℕ)) (near : List ℕ) → length lists ≡ i → more ≡ lists ++ near ∷ [] → AreNear left count i near →
-    ((k : ℕ) → k < i → AreNear left count k (get_or lists k [])) → (k : ℕ) → k < i + 1 → AreNear left count k (get_or more k [])
-lists_more left count i lists more near l e here done k ki =
-    let at' = ap (λ (xs : List (List ℕ)). get_or xs k []) e in
-    ⊎_elim
-    (λ q. subst (AreNear left count k) (sym (at' ∙ get_or_push lists near [] k (l ∙ sym q))) (subst (λ (t : ℕ). AreNear left count t near) (sym q) here))
-    (λ d. subst (AreNear left count k) (sym (at' ∙ get_or_append_left lists (near ∷ []) [] k (omega (arith, l, ki, d)))) (done k (omega (arith, ki, d))))
-    (cases_eq k i)
-
-pub all_near_stay : (left new : Pairs) (count : ℕ) (lists : List (List ℕ)) → count ≤ left.n → Nearer left new → AreAllNear left count lists → AreAllNear new count lists
-all_near_stay left new count lists l f a = record { size = a.size; each = λ i ic. near_stays left new count i _ l ic f (a.each i ic) }
 
 -- with three pairs above 0 no centre can be applied
 opposed_not : (apart : Bool) (w l : ℤ) → w ≡ only_if (not apart) l → pos 0 <ℤ w → (apart ≡ true) ⊎ (w <ℤ pos 0) → ⊥

@@ -1,4 +1,5 @@
 pub mod Rows
+pub mod Flat
 pub mod Faults
 pub mod Prices
 pub mod Packing

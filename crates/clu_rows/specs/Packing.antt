@@ -1,6 +1,7 @@
 -- Packings of triangles: what the rows leave of each pair's weight, and when no triangle is left to apply.
 use Rattle.std.specs.Prelude.{◌≡◌, ◌≢◌, ◌⊎◌, ℕ, ℤ, pos, neg_ℤ, ◌-ℤ◌, ◌≤ℤ◌, ◌<◌, List, [], ◌∷◌, ◌++◌, true, false, Contains}
-use Rattle.clu_rows.specs.Rows.{TwoSet, priced}
+use Rattle.clu_partition.specs.Pairs.{weight_of}
+use Rattle.clu_rows.specs.Rows.{TwoSet, priced, excess}
 use Rattle.clu_state.specs.State.{State, leader, are_apart, group_weight}
 
 -- what the rows leave of the weight of two groups
@@ -38,3 +39,11 @@ pub data IsPacking (s : State) : List TwoSet → Type 0 where
 -- no triangle is left to apply
 abbrev pub IsMaximal : State → List TwoSet → Type 0
 IsMaximal s rows = (a b c : ℕ) → Three s a b c → CanApply s rows a b c 1 → ⊥
+
+-- what the rows leave uncovered, over a denominator of 1
+abbrev pub excess_of : State → List TwoSet → ℤ
+excess_of s rows = excess (weight_of s.pairs) (leader s) (are_apart s) s.members 1 rows
+
+-- working space: for how many vertices there is room
+pub record Room : Type 0 where
+  pub n : ℕ

@@ -1,3 +1,6 @@
+//! The bound that a leaf proves: multipliers of two-set inequalities are a feasible dual solution of the linear program over
+//! them, so no partition is worth more (linear-programming duality; two-set inequalities: Grötschel and Wakabayashi 1990).
+
 ghost use Rattle.std.specs.Prelude.{◌≡◌, ◌≢◌, ◌<◌, ◌≤◌, ◌^◌, ℕ, ℤ, pos, ◌≤ℤ◌, All, Contains, IfOk, IsErrOf, OnErr, unsigned_abs};
 ghost use Rattle.clu_partition.specs.Sums.{positive};
 ghost use Rattle.clu_partition.specs.Values.{value_on};
@@ -9,17 +12,52 @@ ghost use Rattle.clu_rows.specs.Faults.{AreRows, IsDenominator, IsFirstFault, wo
 
 use crate::faults::first_fault;
 use crate::prices::{add_rows, clear};
-use crate::row::{Leaf, LeafFault, Row};
+use crate::row::{Leaf, LeafFault};
+use crate::rows::Rows;
 use clu_partition::{Residual, Vertex};
 use clu_state::Situation;
 
+/// The bound that a leaf proves: no partition of the state's class has a greater value. `scratch`
+/// has room for the problem's vertices, and what it holds doesn't matter; after a fault it holds it
+/// still.
+///
+/// The bound is the value inside the groups and, over the denominator and rounded down, the
+/// multipliers times the rows' right sides and what these leave uncovered of the free pairs.
+pub fn leaf_bound<S: Situation>(
+    state: &S,
+    leaf: &Leaf,
+    scratch: &mut Residual,
+) -> Result<i128, LeafFault>
+    requires { (S.state state.now).pairs.n ≤ scratch.old.n }
+    ensures ok { IfOk result (λ bound. bound
+        ≡ leaf_bound_of (S.state state.now) leaf.now.den leaf.now.rows) }
+    ensures sound { IfOk result (λ bound. (label : ℕ → ℕ) → InClass (S.state state.now) label
+        → value_on (weight_of (S.state state.now).pairs) label (S.state state.now).members ≤ℤ bound) }
+    ensures denominator { IfOk result (λ _. IsDenominator leaf.now.den) }
+    ensures rows { IfOk result (λ _. AreRows (S.state state.now) leaf.now.rows) }
+    ensures den_fault { IsErrOf result LeafFault.Den → IsDenominator leaf.now.den → ⊥ }
+    ensures row_fault { (row : ℕ) → IsErrOf result (LeafFault.Row row)
+        → IsDenominator leaf.now.den × IsFirstFault (S.state state.now) leaf.now.rows row }
+    ensures room { scratch.new.n ≡ scratch.old.n }
+    ensures kept { OnErr result (scratch.new ≡ scratch.old) }
+{
+    if leaf.den == 0 || leaf.den > 1 << 32 {
+        return Err(LeafFault::Den);
+    }
+    if let Some(row) = first_fault(state, &leaf.rows) {
+        return Err(LeafFault::Row { row });
+    }
+    Ok(sound_bound(state, leaf, scratch))
+}
+
 /// The multipliers times the rows' right sides.
-fn row_limit(rows: &[Row]) -> u128
+pub(crate) fn row_limit(rows: &Rows) -> u128
     requires { worth_of rows.now ≤ 2 ^ 120 }
     ensures { pos result ≡ row_limit_of rows.now }
 {
     let mut sum = 0;
-    for row in rows {
+    for i in 0..rows.len() {
+        let row = rows.row(i);
         sum += row.y * row.limit();
     }
     sum
@@ -112,41 +150,8 @@ fn sound_bound<S: Situation>(state: &S, leaf: &Leaf, scratch: &mut Residual) -> 
     ensures room { scratch.new.n ≡ scratch.old.n }
 {
     clear(scratch, state.members());
-    add_rows(state, scratch, leaf.rows.as_slice());
-    let covered = row_limit(leaf.rows.as_slice());
+    add_rows(state, scratch, &leaf.rows);
+    let covered = row_limit(&leaf.rows);
     let left = excess(state, leaf.den, scratch);
     state.fixed_value() + ((covered + left) / leaf.den as u128) as i128
-}
-
-/// The bound that a leaf proves: no partition of the state's class has a greater value. `scratch`
-/// has room for the problem's vertices, and what it holds doesn't matter; after a fault it holds it
-/// still.
-///
-/// The bound is the value inside the groups and, over the denominator and rounded down, the
-/// multipliers times the rows' right sides and what these leave uncovered of the free pairs.
-pub fn leaf_bound<S: Situation>(
-    state: &S,
-    leaf: &Leaf,
-    scratch: &mut Residual,
-) -> Result<i128, LeafFault>
-    requires { (S.state state.now).pairs.n ≤ scratch.old.n }
-    ensures ok { IfOk result (λ bound. bound
-        ≡ leaf_bound_of (S.state state.now) leaf.now.den leaf.now.rows) }
-    ensures sound { IfOk result (λ bound. (label : ℕ → ℕ) → InClass (S.state state.now) label
-        → value_on (weight_of (S.state state.now).pairs) label (S.state state.now).members ≤ℤ bound) }
-    ensures denominator { IfOk result (λ _. IsDenominator leaf.now.den) }
-    ensures rows { IfOk result (λ _. AreRows (S.state state.now) leaf.now.rows) }
-    ensures den_fault { IsErrOf result LeafFault.Den → IsDenominator leaf.now.den → ⊥ }
-    ensures row_fault { (row : ℕ) → IsErrOf result (LeafFault.Row row)
-        → IsDenominator leaf.now.den × IsFirstFault (S.state state.now) leaf.now.rows row }
-    ensures room { scratch.new.n ≡ scratch.old.n }
-    ensures kept { OnErr result (scratch.new ≡ scratch.old) }
-{
-    if leaf.den == 0 || leaf.den > 1 << 32 {
-        return Err(LeafFault::Den);
-    }
-    if let Some(row) = first_fault(state, leaf.rows.as_slice()) {
-        return Err(LeafFault::Row { row });
-    }
-    Ok(sound_bound(state, leaf, scratch))
 }

@@ -1,15 +1,34 @@
+//! The faults of a leaf's rows: each names members of different groups, and the rows' worth together stays below a limit.
+//! The limit keeps each sum of the bound in 128 bits, so that nothing has to be tested while it is taken.
+
 ghost use Rattle.std.specs.Prelude.{◌≡◌, ◌≢◌, ◌↔◌, ◌<◌, ◌≤◌, ◌+◌, ◌*◌, ◌^◌, ◌++◌, ℕ, List, All, Contains, IsTrue, IfSome, IsNone, length, slice_index};
 ghost use Rattle.clu_state.specs.State.{IsState, leader};
 ghost use Rattle.clu_partition.specs.Groups.{NamesOnce};
 ghost use Rattle.clu_rows.specs.Faults.{IsRow, AreRows, IsFirstFault};
 
 use crate::row::Row;
+use crate::rows::Rows;
 use clu_partition::{Vertex, is_member};
 use clu_state::Situation;
 
 /// The largest worth of a leaf's rows: the sum of the multipliers times the squares of the rows'
 /// numbers of vertices.
 const LIMIT: u128 = 1 << 120;
+
+/// The first row with which the rows have a fault, counted from 1.
+pub fn first_fault<S: Situation>(state: &S, rows: &Rows) -> Option<u64>
+    ensures some { IfSome result (IsFirstFault (S.state state.now) rows.now) }
+    ensures none { IsNone result → AreRows (S.state state.now) rows.now }
+{
+    let mut room = LIMIT;
+    for i in 0..rows.len() {
+        match room_after(state, &rows.row(i), room) {
+            Some(left) => room = left,
+            None => return Some(i as u64 + 1),
+        }
+    }
+    None
+}
 
 fn are_members(members: &[Vertex], list: &[Vertex]) -> bool
     requires rising { (i j : ℕ) → i < j → j < length members.now
@@ -77,7 +96,7 @@ fn is_row<S: Situation>(state: &S, row: &Row) -> bool
     if !has_shape(row, members.len()) {
         return false;
     }
-    let (s, t) = (row.s.as_slice(), row.t.as_slice());
+    let (s, t) = (row.s, row.t);
     if !are_members(members, s) {
         return false;
     }
@@ -106,19 +125,4 @@ fn room_after<S: Situation>(state: &S, row: &Row, room: u128) -> Option<u128>
         return None;
     }
     Some(room - row.y * square)
-}
-
-/// The first row with which the rows have a fault, counted from 1.
-pub fn first_fault<S: Situation>(state: &S, rows: &[Row]) -> Option<u64>
-    ensures some { IfSome result (IsFirstFault (S.state state.now) rows.now) }
-    ensures none { IsNone result → AreRows (S.state state.now) rows.now }
-{
-    let mut room = LIMIT;
-    for (i, row) in rows.iter().enumerate() {
-        match room_after(state, row, room) {
-            Some(left) => room = left,
-            None => return Some(i as u64 + 1),
-        }
-    }
-    None
 }

@@ -1,3 +1,6 @@
+//! The prices that rows set on pairs of groups: the sum of the multipliers times the coefficients of the two-set inequalities
+//! (Grötschel and Wakabayashi 1990), in a table that is cleared at the pairs of members alone.
+
 ghost use Rattle.std.specs.Prelude.{◌≡◌, ◌≢◌, ◌<◌, ◌≤◌, ◌+◌, ◌*◌, ◌^◌, IsTrue, ℕ, ℤ, pos, ◌+ℤ◌, ◌≤ℤ◌, length, All, Contains, unsigned_abs, slice_index, ◌*ℤ◌};
 ghost use Rattle.clu_partition.specs.Sums.{total, cross_total, pair_total, only_if};
 ghost use Rattle.clu_partition.specs.Pairs.{are_pair, weight_of};
@@ -7,8 +10,26 @@ ghost use Rattle.clu_rows.specs.Prices.{hit};
 ghost use Rattle.clu_rows.specs.Faults.{IsRow, AreRows};
 
 use crate::row::Row;
+use crate::rows::Rows;
 use clu_partition::{Residual, Vertex};
 use clu_state::Situation;
+
+/// Adds all rows to a table that is 0 at each pair of members.
+pub fn add_rows<S: Situation>(state: &S, scratch: &mut Residual, rows: &Rows)
+    requires valid { IsState (S.state state.now) }
+    requires room { (S.state state.now).pairs.n ≤ scratch.old.n }
+    requires rows { AreRows (S.state state.now) rows.now }
+    requires clear { (x z : ℕ) → Contains (S.state state.now).members x
+        → Contains (S.state state.now).members z → x ≢ z → weight_of scratch.old x z ≡ pos 0 }
+    ensures size { scratch.new.n ≡ scratch.old.n }
+    ensures sums { (x z : ℕ) → Contains (S.state state.now).members x
+        → Contains (S.state state.now).members z → x ≢ z
+        → weight_of scratch.new x z ≡ priced (leader (S.state state.now)) rows.now x z }
+{
+    for i in 0..rows.len() {
+        add_row(state, scratch, &rows.row(i));
+    }
+}
 
 /// Adds k to the number of a and b.
 fn add_pair(scratch: &mut Residual, a: Vertex, b: Vertex, k: i128)
@@ -109,28 +130,11 @@ fn add_row<S: Situation>(state: &S, scratch: &mut Residual, row: &Row)
         → weight_of scratch.new x z ≡ weight_of scratch.old x z
         +ℤ pos row.now.y *ℤ coefficient (leader (S.state state.now)) row.now x z }
 {
-    let (s, t) = (row.s.as_slice(), row.t.as_slice());
+    let (s, t) = (row.s, row.t);
     let y = row.y as i128;
     add_across(state, scratch, s, t, y);
     add_inside(state, scratch, s, -y);
     add_inside(state, scratch, t, -y);
-}
-
-/// Adds all rows to a table that is 0 at each pair of members.
-pub fn add_rows<S: Situation>(state: &S, scratch: &mut Residual, rows: &[Row])
-    requires valid { IsState (S.state state.now) }
-    requires room { (S.state state.now).pairs.n ≤ scratch.old.n }
-    requires rows { AreRows (S.state state.now) rows.now }
-    requires clear { (x z : ℕ) → Contains (S.state state.now).members x
-        → Contains (S.state state.now).members z → x ≢ z → weight_of scratch.old x z ≡ pos 0 }
-    ensures size { scratch.new.n ≡ scratch.old.n }
-    ensures sums { (x z : ℕ) → Contains (S.state state.now).members x
-        → Contains (S.state state.now).members z → x ≢ z
-        → weight_of scratch.new x z ≡ priced (leader (S.state state.now)) rows.now x z }
-{
-    for row in rows {
-        add_row(state, scratch, row);
-    }
 }
 
 /// Clears the pairs of the member at i with those after it.

@@ -4,6 +4,7 @@ use Rattle.std.specs.List.{AllByRecursion}
 use Rattle.std.proofs.lemmas.Int.{ints}
 use Rattle.clu_partition.specs.Closed.{Closed as Rules, IsClosed}
 use Rattle.clu_partition.specs.Pairs.{Pairs}
+use Rattle.clu_rows.specs.Packing.{Room}
 use Rattle.clu_partition.specs.Partition.{below}
 use Rattle.clu_objective.specs.Problem.{Posed, IsPosed}
 use Rattle.clu_state.specs.State.{State, IsState}
@@ -18,8 +19,9 @@ use Rattle.clu_cert.specs.declared.certificate.Item.TheVariants.{Reduce, Leaf}
 use Rattle.clu_reduce.specs.declared.step.Step.{Step}
 use Rattle.clu_cert.proofs.States.{IsTask, whole_is_state}
 use Rattle.clu_tree.specs.Items.{branch_items}
-use Rattle.clu_tree.specs.Nodes.{Tree, Shown, BoundAt, HasKey, LeafAt, IsOpen, items_of, new_leaf}
+use Rattle.clu_tree.specs.Nodes.{Tree, Shown, HasKey, LeafAt, IsOpen, items_of, new_leaf}
 use Rattle.clu_tree.specs.declared.node.Fresh.{Fresh}
+use Rattle.clu_tree.proofs.KeyLaws.{unsplit_once}
 use Rattle.clu_search.specs.Incumbent.{IsIncumbent}
 use Rattle.clu_search.specs.Search.{AreSettled, IsAbove, IsCertified, IsSearch, IsSettled, made}
 use Rattle.clu_search.specs.Whole.{certificate_of}
@@ -39,10 +41,6 @@ settled_more best more node low s = record {
 }
 
 -- ---- a leaf among the nodes
-pub leaf_bound : (key : ℕ) (node : NodeBound) (ns : List Shown) → LeafAt key node ns → BoundAt key node ns
-leaf_bound key node [] h = absurd h
-leaf_bound key node (n ∷ ns) h = ⊎_elim (λ e. inl (e.0, e.1)) (λ r. inr (leaf_bound key node ns r)) h
-
 pub leaf_key : (key : ℕ) (node : NodeBound) (ns : List Shown) → LeafAt key node ns → HasKey key ns
 leaf_key key node [] h = absurd h
 leaf_key key node (n ∷ ns) h = ⊎_elim (λ e. inl e.0) (λ r. inr (leaf_key key node ns r)) h
@@ -50,7 +48,7 @@ leaf_key key node (n ∷ ns) h = ⊎_elim (λ e. inl e.0) (λ r. inr (leaf_key k
 -- a leaf with a bound above the best value isn't closed
 pub unclosed : (s : Search) (key : ℕ) → IsSearch s → (a : IsAbove s key) → a.node.how ≢ Closed
 unclosed s key i a e =
-    let h = (i.settled key a.node (leaf_bound key a.node s.tree.nodes a.leaf)).closed e in
+    let h = (i.settled key a.node a.leaf).closed e in
     let above = a.above in
     omega (arith, ints, h, above)
 
@@ -64,16 +62,15 @@ open_leaf s key i a = record {
 
 -- and has a free pair
 pub no_pair : (s : Search) (key : ℕ) (node : NodeBound) → IsSearch s → IsAbove s key →
-    ((other : NodeBound) → BoundAt key other s.tree.nodes → other ≡ node) → node.pair ≡ None → ⊥
+    ((other : NodeBound) → LeafAt key other s.tree.nodes → other ≡ node) → node.pair ≡ None → ⊥
 no_pair s key node i a only e =
-    let at = leaf_bound key a.node s.tree.nodes a.leaf in
-    unclosed s key i a ((i.settled key a.node at).paired (ap (λ (n : NodeBound). n.pair) (only a.node at) ∙ e))
+    unclosed s key i a ((i.settled key a.node a.leaf).paired (ap (λ (n : NodeBound). n.pair) (only a.node a.leaf) ∙ e))
 
 -- ---- a split
 -- the nodes of the old tree and two new ones are settled
 pub settled_split : (best : ℤ) (old new : List Shown) (first second : ℕ) (together apart : NodeBound) →
-    ((key : ℕ) (node : NodeBound) → BoundAt key node new →
-    BoundAt key node old ⊎ (((key ≡ first) × (node ≡ together)) ⊎ ((key ≡ second) × (node ≡ apart)))) →
+    ((key : ℕ) (node : NodeBound) → LeafAt key node new →
+    LeafAt key node old ⊎ (((key ≡ first) × (node ≡ together)) ⊎ ((key ≡ second) × (node ≡ apart)))) →
     AreSettled best old → IsSettled best together → IsSettled best apart → AreSettled best new
 settled_split best old new first second together apart bounds all one two key node at = ⊎_elim
     (λ b. all key node b)
@@ -98,7 +95,7 @@ with_nodes s t ns i e settled = record {
 }
 
 -- the same search with a better partition
-pub with_best : (s : Search) (best : Incumbent) (scratch : Pairs) → IsSearch s → s.incumbent.value ≤ℤ best.value → s.problem.now.pairs.n ≤ scratch.n →
+pub with_best : (s : Search) (best : Incumbent) (scratch : Room) → IsSearch s → s.incumbent.value ≤ℤ best.value → s.problem.now.pairs.n ≤ scratch.n →
     IsIncumbent s.problem.now.pairs s.start.now best → IsSearch (record s { incumbent = best; scratch = scratch })
 with_best s best scratch i more room known = record {
   posed = i.posed;
@@ -145,7 +142,7 @@ ok_both (Ok x) P Q R f p q = f p q
 ok_both (Err e) P Q R f p q = tt
 
 -- the groups of a state of the search were tried
-pub with_fresh : {T E : Type 0} (s : Search) (t : State) (ds : List Decision) (best : Incumbent) (scratch : Pairs) (r : Result T E) → IsSearch s →
+pub with_fresh : {T E : Type 0} (s : Search) (t : State) (ds : List Decision) (best : Incumbent) (scratch : Room) (r : Result T E) → IsSearch s →
     t ≡ record (whole s.problem.now s.start.now) { decisions = ds } → OnOk r (IsIncumbent t.pairs t.start best) →
     OnOk r (s.incumbent.value ≤ℤ best.value) → scratch.n ≡ s.scratch.n → OnOk r (IsSearch (record s { incumbent = best; scratch = scratch }))
 with_fresh s t ds best scratch r i e known more room =
@@ -200,7 +197,7 @@ first_search s fresh floor posed state vertices root is room known settled = rec
 }
   where
     one : AreSettled s.incumbent.value (new_leaf root.0 fresh ∷ [])
-    one key node at = ⊎_elim (λ e. subst (IsSettled s.incumbent.value) e.1 settled) absurd at
+    one key node at = ⊎_elim (λ e. subst (IsSettled s.incumbent.value) (unsplit_once fresh.bound node e.1) settled) absurd at
 
 pub none_made : (s : Search) (fresh : Fresh) (floor : ℤ) →
     IsRoot s.problem.now s.start.now floor fresh s.tree → made s ≡ 0

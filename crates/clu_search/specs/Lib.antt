@@ -1,4 +1,5 @@
 pub mod Count
+pub mod Evidence
 pub mod Incumbent
 pub mod Outcome
 pub mod Search

@@ -9,18 +9,19 @@ use Rattle.clu_cert.specs.Fits.{Fits}
 use Rattle.clu_cert.specs.Valid.{IsValid, whole}
 use Rattle.clu_cert.specs.declared.certificate.Certificate.{Certificate}
 use Rattle.clu_tree.specs.Items.{branch_items}
-use Rattle.clu_tree.specs.Nodes.{BoundAt, LeafAt, Shown, items_of}
+use Rattle.clu_tree.specs.Nodes.{LeafAt, Shown, items_of}
 use Rattle.clu_search.specs.Incumbent.{IsIncumbent}
 use Rattle.clu_search.specs.Outcome.{StatesItsBound, branchings_of}
 use Rattle.clu_search.specs.declared.search.Search.{Search}
 
--- the node is closed only where its bound is no more than this value, and it is closed where it has no free pair
+-- the leaf is closed only where its bound is no more than this value, and it is closed where it has no free pair
 pub record IsSettled (best : ℤ) (node : NodeBound) : Type 0 where
   pub closed : node.how ≡ Closed → node.bound ≤ℤ best
   pub paired : node.pair ≡ None → node.how ≡ Closed
 
+-- each leaf is settled
 abbrev pub AreSettled : ℤ → List Shown → Type 0
-AreSettled best nodes = (key : ℕ) (node : NodeBound) → BoundAt key node nodes → IsSettled best node
+AreSettled best nodes = (key : ℕ) (node : NodeBound) → LeafAt key node nodes → IsSettled best node
 
 -- the rules are for the problem, the tree is that of all its vertices, and its bounds were found beside partitions no better
 -- than the best one

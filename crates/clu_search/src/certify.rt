@@ -1,3 +1,6 @@
+//! A certificate without root steps: one part of all vertices, whose proof is the search's tree. Whoever
+//! checks it needs no part of the search, only the items and the rows at their leaves.
+
 ghost use Rattle.std.specs.Prelude.{◌≡◌, ◌<◌, ◌≤◌, ◌^◌, ◌≤ℤ◌, pos, neg_ℤ, length, unsigned_abs, IfOk};
 ghost use Rattle.clu_partition.specs.Partition.{below};
 ghost use Rattle.clu_search.specs.Whole.{certificate_of, whole_proofs};
@@ -7,25 +10,6 @@ use clu_cert::{Certificate, Item, Proof};
 use clu_objective::Problem;
 use clu_partition::{Seq, all_vertices};
 use std::alloc::{AllocError, Global};
-
-/// The proof of a part of all n vertices.
-fn whole_proof(alloc: Global, n: u32, items: Seq<Item>) -> Result<Proof, AllocError>
-    ensures { IfOk result (λ proof. proof ≡ record { part = below n; items = items }) }
-{
-    let part = all_vertices(alloc, n)?;
-    Ok(Proof { part, items })
-}
-
-/// The proofs of the parts: one part of all n vertices, where there are any.
-fn proofs_of(alloc: Global, n: u32, items: Seq<Item>) -> Result<Seq<Proof>, AllocError>
-    ensures { IfOk result (λ proofs. proofs ≡ whole_proofs n items) }
-{
-    let mut proofs = Seq::new(alloc);
-    if n != 0 {
-        proofs.push(whole_proof(alloc, n, items)?)?;
-    }
-    Ok(proofs)
-}
 
 /// The certificate of a partition, whose bound is the upper of these items. No value passes 2^88,
 /// so an upper above it says no more than that.
@@ -54,4 +38,23 @@ pub(crate) fn certify(
         root_steps: Seq::new(alloc),
         proofs,
     })
+}
+
+/// The proofs of the parts: one part of all n vertices, where there are any.
+fn proofs_of(alloc: Global, n: u32, items: Seq<Item>) -> Result<Seq<Proof>, AllocError>
+    ensures { IfOk result (λ proofs. proofs ≡ whole_proofs n items) }
+{
+    let mut proofs = Seq::new(alloc);
+    if n != 0 {
+        proofs.push(whole_proof(alloc, n, items)?)?;
+    }
+    Ok(proofs)
+}
+
+/// The proof of a part of all n vertices.
+fn whole_proof(alloc: Global, n: u32, items: Seq<Item>) -> Result<Proof, AllocError>
+    ensures { IfOk result (λ proof. proof ≡ record { part = below n; items = items }) }
+{
+    let part = all_vertices(alloc, n)?;
+    Ok(Proof { part, items })
 }

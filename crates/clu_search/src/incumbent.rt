@@ -1,3 +1,6 @@
+//! The incumbent: the best permitted partition so far. The groups of a state are themselves such a
+//! partition, worth the state's fixed value, so each node gives a candidate at the cost of one reading.
+
 ghost use Rattle.std.specs.Prelude.{◌≡◌, ◌≤◌, ◌≤ℤ◌, IfOk, OnOk, length, map};
 ghost use Rattle.clu_partition.specs.Closed.{IsClosed};
 ghost use Rattle.clu_partition.specs.Partition.{below};
@@ -14,34 +17,6 @@ use std::alloc::{AllocError, Global};
 pub(crate) struct Incumbent {
     pub(crate) partition: Partition,
     pub(crate) value: i128,
-}
-
-/// The least vertex of each vertex's group.
-fn groups_of_rules(alloc: Global, start: &Start) -> Result<Vec<u32>, AllocError>
-    ensures groups { IfOk result (λ labels. labels.items ≡ start.now.group) }
-    ensures closed { IfOk result (λ _. IsClosed start.now) }
-    ensures few { IfOk result (λ labels. length labels.items ≤ 1000) }
-{
-    let n = start.n();
-    let mut labels = Vec::with_capacity(alloc, n as usize)?;
-    for v in 0..n {
-        labels.push(start.group(Vertex(v)).0)?;
-    }
-    Ok(labels)
-}
-
-/// The least vertex of each member's group.
-fn groups_of_state<S: Situation>(alloc: Global, state: &S) -> Result<Vec<u32>, AllocError>
-    ensures groups { IfOk result (λ labels. labels.items
-        ≡ map (leader (S.state state.now)) (S.state state.now).members) }
-    ensures valid { IfOk result (λ _. IsState (S.state state.now)) }
-{
-    let members = state.members();
-    let mut labels = Vec::with_capacity(alloc, members.len())?;
-    for v in members {
-        labels.push(state.group_of(*v).0)?;
-    }
-    Ok(labels)
 }
 
 impl Incumbent {
@@ -83,4 +58,32 @@ impl Incumbent {
         }
         Ok(())
     }
+}
+
+/// The least vertex of each vertex's group.
+fn groups_of_rules(alloc: Global, start: &Start) -> Result<Vec<u32>, AllocError>
+    ensures groups { IfOk result (λ labels. labels.items ≡ start.now.group) }
+    ensures closed { IfOk result (λ _. IsClosed start.now) }
+    ensures few { IfOk result (λ labels. length labels.items ≤ 1000) }
+{
+    let n = start.n();
+    let mut labels = Vec::with_capacity(alloc, n as usize)?;
+    for v in 0..n {
+        labels.push(start.group(Vertex(v)).0)?;
+    }
+    Ok(labels)
+}
+
+/// The least vertex of each member's group.
+fn groups_of_state<S: Situation>(alloc: Global, state: &S) -> Result<Vec<u32>, AllocError>
+    ensures groups { IfOk result (λ labels. labels.items
+        ≡ map (leader (S.state state.now)) (S.state state.now).members) }
+    ensures valid { IfOk result (λ _. IsState (S.state state.now)) }
+{
+    let members = state.members();
+    let mut labels = Vec::with_capacity(alloc, members.len())?;
+    for v in members {
+        labels.push(state.group_of(*v).0)?;
+    }
+    Ok(labels)
 }

@@ -1,3 +1,6 @@
+//! What the public call takes and hands out: how far a search may go, how it ended, and the evidence,
+//! which says what was proved also where the search was stopped early.
+
 use clu_cert::Certificate;
 use clu_partition::Partition;
 

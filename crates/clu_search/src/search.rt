@@ -1,3 +1,7 @@
+//! Branch and bound (Land and Doig, 1960), best leaf first, on a pair of vertices that share a block or
+//! don't, as in Grötschel and Wakabayashi, 1989. Each split node's two states hold all partitions of its own
+//! between them, so the greatest bound of a leaf bounds them all.
+
 ghost use Rattle.std.specs.Prelude.{◌≡◌, ◌+◌, ◌≤◌, ◌<◌, ◌^◌, ◌≤ℤ◌, IfOk, OnOk, length};
 ghost use Rattle.clu_partition.specs.Partition.{below};
 ghost use Rattle.clu_state.specs.State.{State, IsState, CanDecide, CanDecideAll, decided};
@@ -11,55 +15,11 @@ use crate::incumbent::Incumbent;
 use clu_cert::Certificate;
 use clu_node::bound_node;
 use clu_objective::Problem;
-use clu_partition::{Seq, Start, Vertex, all_vertices};
-use clu_rows::Residual;
+use clu_partition::{Partition, Seq, Start, Vertex, all_vertices};
+use clu_rows::Scratch;
 use clu_state::{Decision, Rebuilt, Situation};
 use clu_tree::{Fresh, Tree};
 use std::alloc::{AllocError, Global};
-
-/// The state of all vertices after the decisions of a path.
-fn rebuilt<'p>(
-    alloc: Global,
-    problem: &'p Problem,
-    start: &'p Start,
-    vertices: &[Vertex],
-    path: &[Decision],
-) -> Result<Rebuilt<'p>, AllocError>
-    requires valid { IsState (whole problem.now start.now) }
-    requires vertices { vertices.now ≡ below problem.now.pairs.n }
-    requires path { CanDecideAll (whole problem.now start.now) path.now }
-    ensures { IfOk result (λ state. state ≡ record (whole problem.now start.now) { decisions = path.now }) }
-{
-    let mut state = Rebuilt::new(alloc, &problem.pairs, start, vertices)?;
-    for decision in path {
-        state.decide(*decision)?;
-    }
-    Ok(state)
-}
-
-/// Finishes a new node: the groups of its state are tried as the incumbent, and then it is bounded.
-fn fresh<S: Situation>(
-    alloc: Global,
-    state: &S,
-    best: &mut Incumbent,
-    scratch: &mut Residual,
-) -> Result<Fresh, AllocError>
-    requires all { (S.state state.now).members ≡ below (S.state state.now).pairs.n }
-    requires known { IsIncumbent (S.state state.now).pairs (S.state state.now).start best.old }
-    requires room { (S.state state.now).pairs.n ≤ scratch.old.n }
-    ensures known { OnOk result (IsIncumbent (S.state state.now).pairs (S.state state.now).start best.new) }
-    ensures risen { OnOk result (best.old.value ≤ℤ best.new.value) }
-    ensures fit { IfOk result (λ fresh. IsFit (S.state state.now) fresh) }
-    ensures settled { IfOk result (λ fresh. IsSettled best.new.value fresh.bound) }
-    ensures room { scratch.new.n ≡ scratch.old.n }
-{
-    best.try_groups(alloc, state)?;
-    let bound = bound_node(alloc, state, best.value, scratch)?;
-    Ok(Fresh {
-        steps: Seq::new(alloc),
-        bound,
-    })
-}
 
 /// How far a search is.
 #[derive(Drop)]
@@ -69,7 +29,7 @@ pub(crate) struct Search<'p> {
     vertices: Seq<Vertex>,
     tree: Tree<'p>,
     pub(crate) incumbent: Incumbent,
-    scratch: Residual,
+    scratch: Scratch,
 }
 
 impl<'p> Search<'p> {
@@ -88,7 +48,7 @@ impl<'p> Search<'p> {
     {
         let vertices = all_vertices(alloc, problem.pairs.n())?;
         let mut incumbent = Incumbent::first(alloc, problem, start)?;
-        let mut scratch = Residual::new(alloc, problem.pairs.n())?;
+        let mut scratch = Scratch::new(alloc, problem.pairs.n())?;
         let state = rebuilt(alloc, problem, start, vertices.as_slice(), &[])?;
         let root = fresh(alloc, &state, &mut incumbent, &mut scratch)?;
         let floor = incumbent.value;
@@ -173,18 +133,60 @@ impl<'p> Search<'p> {
         self.tree.branchings()
     }
 
-    /// The certificate of the incumbent, whose bound is the greatest of a leaf of the tree.
-    pub(crate) fn certificate(&self, alloc: Global) -> Result<Certificate, AllocError>
-        requires { IsSearch self.now }
-        ensures { IfOk result (λ cert. IsCertified self.now cert) }
+    /// The partition, and its certificate with the greatest bound of a leaf of the tree, from which the
+    /// leaves are moved into the proof.
+    pub(crate) fn certificate(self, alloc: Global) -> Result<(Partition, Certificate), AllocError>
+        requires { IsSearch self }
+        ensures partition { IfOk result (λ found. found.0 ≡ self.entry.incumbent.partition) }
+        ensures certified { IfOk result (λ found. IsCertified self.entry found.1) }
     {
+        let upper = self.tree.upper();
         let items = self.tree.preorder(alloc)?;
-        certify(
-            alloc,
-            self.problem,
-            &self.incumbent,
-            items,
-            self.tree.upper(),
-        )
+        let certificate = certify(alloc, self.problem, &self.incumbent, items, upper)?;
+        Ok((self.incumbent.partition, certificate))
     }
+}
+
+/// The state of all vertices after the decisions of a path.
+fn rebuilt<'p>(
+    alloc: Global,
+    problem: &'p Problem,
+    start: &'p Start,
+    vertices: &[Vertex],
+    path: &[Decision],
+) -> Result<Rebuilt<'p>, AllocError>
+    requires valid { IsState (whole problem.now start.now) }
+    requires vertices { vertices.now ≡ below problem.now.pairs.n }
+    requires path { CanDecideAll (whole problem.now start.now) path.now }
+    ensures { IfOk result (λ state. state ≡ record (whole problem.now start.now) { decisions = path.now }) }
+{
+    let mut state = Rebuilt::new(alloc, &problem.pairs, start, vertices)?;
+    for decision in path {
+        state.decide(*decision)?;
+    }
+    Ok(state)
+}
+
+/// Finishes a new node: the groups of its state are tried as the incumbent, and then it is bounded.
+fn fresh<S: Situation>(
+    alloc: Global,
+    state: &S,
+    best: &mut Incumbent,
+    scratch: &mut Scratch,
+) -> Result<Fresh, AllocError>
+    requires all { (S.state state.now).members ≡ below (S.state state.now).pairs.n }
+    requires known { IsIncumbent (S.state state.now).pairs (S.state state.now).start best.old }
+    requires room { (S.state state.now).pairs.n ≤ scratch.old.n }
+    ensures known { OnOk result (IsIncumbent (S.state state.now).pairs (S.state state.now).start best.new) }
+    ensures risen { OnOk result (best.old.value ≤ℤ best.new.value) }
+    ensures fit { IfOk result (λ fresh. IsFit (S.state state.now) fresh) }
+    ensures settled { IfOk result (λ fresh. IsSettled best.new.value fresh.bound) }
+    ensures room { scratch.new.n ≡ scratch.old.n }
+{
+    best.try_groups(alloc, state)?;
+    let bound = bound_node(alloc, state, best.value, scratch)?;
+    Ok(Fresh {
+        steps: Seq::new(alloc),
+        bound,
+    })
 }

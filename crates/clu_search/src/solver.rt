@@ -12,13 +12,14 @@ ghost use Rattle.clu_cert.specs.Fits.{Fits};
 ghost use Rattle.clu_cert.specs.Valid.{IsValid};
 ghost use Rattle.clu_search.specs.Count.{HasEachPermitted, count, partitions, permitted, permitted_of};
 ghost use Rattle.clu_search.specs.Outcome.{StatesItsBound, branchings_of};
-ghost use Rattle.clu_search.specs.Search.{IsCertified, IsSearch, SameTask, made};
+ghost use Rattle.clu_search.specs.Evidence.{IsEvidence};
+ghost use Rattle.clu_search.specs.Search.{IsSearch, made};
 
 use crate::search::Search;
 use crate::{End, Limits, Outcome};
 use clu_cert::Certificate;
 use clu_objective::Problem;
-use clu_partition::Start;
+use clu_partition::{Partition, Start};
 use std::alloc::{AllocError, Global};
 
 /// Searches for a best permitted partition, by branch and bound over the pairs of groups.
@@ -51,51 +52,45 @@ pub fn solve(
         × (o.branchings ≡ limits.now.branchings))) }
     ensures fits { IfOk result (λ o. Fits o.certificate) }
 {
-    let mut search = Search::new(alloc, problem, start)?;
-    let evidence = finish(alloc, &mut search, limits.branchings)?;
+    let search = Search::new(alloc, problem, start)?;
+    let evidence = finish(alloc, search, limits.branchings)?;
+    let end = end_of(&evidence.certificate);
     Ok(Outcome {
-        partition: search.incumbent.partition,
+        partition: evidence.partition,
         certificate: evidence.certificate,
         branchings: evidence.branchings,
-        end: evidence.end,
+        end,
     })
 }
 
 /// What a search has to show where it ends.
 #[derive(Drop)]
 struct Evidence {
+    partition: Partition,
     certificate: Certificate,
     branchings: u64,
-    end: End,
 }
 
-/// Runs a search to its end: the certificate that it leaves, how many branchings it made, and how it
-/// ended.
-fn finish(alloc: Global, search: &mut Search, allowed: u64) -> Result<Evidence, AllocError>
-    requires search { IsSearch search.old }
-    requires unbranched { made search.old ≡ 0 }
-    ensures search { OnOk result (IsSearch search.new) }
-    ensures task { OnOk result (SameTask search.old search.new) }
-    ensures certified { IfOk result (λ e. IsCertified search.new e.certificate) }
-    ensures made { IfOk result (λ e. e.branchings ≡ made search.new) }
+/// Runs a search to its end, and hands out what it found: its tree becomes the proof.
+fn finish(alloc: Global, mut search: Search, allowed: u64) -> Result<Evidence, AllocError>
+    requires search { IsSearch search }
+    requires unbranched { made search ≡ 0 }
+    ensures evidence { IfOk result (λ e. IsEvidence search.entry.problem.now search.entry.start.now e) }
     ensures within { IfOk result (λ e. e.branchings ≤ allowed) }
     ensures counted { IfOk result (λ e. e.branchings < length (permitted_of
-        search.new.start.now (partitions (length search.new.start.now.group)))) }
-    ensures listed { IfOk result (λ _. HasEachPermitted search.new.start.now
-        (permitted_of search.new.start.now (partitions (length search.new.start.now.group)))) }
-    ensures optimal { IfOk result (λ e. (e.end ≡ End.Optimal)
-        ↔ (e.certificate.value ≡ e.certificate.bound)) }
-    ensures gap { IfOk result (λ e. (e.end ≡ End.Branchings)
-        ↔ ((e.certificate.value ≢ e.certificate.bound) × (e.branchings ≡ allowed))) }
+        search.entry.start.now (partitions (length search.entry.start.now.group)))) }
+    ensures listed { IfOk result (λ _. HasEachPermitted search.entry.start.now
+        (permitted_of search.entry.start.now (partitions (length search.entry.start.now.group)))) }
+    ensures stopped { IfOk result (λ e. e.certificate.value ≢ e.certificate.bound
+        → e.branchings ≡ allowed) }
 {
     search.run(alloc, allowed)?;
-    let certificate = search.certificate(alloc)?;
     let branchings = search.branchings();
-    let end = end_of(&certificate);
+    let (partition, certificate) = search.certificate(alloc)?;
     Ok(Evidence {
+        partition,
         certificate,
         branchings,
-        end,
     })
 }
 

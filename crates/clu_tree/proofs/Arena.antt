@@ -1,7 +1,7 @@
 -- The list that the links show, before and after two nodes are put in.
-use Rattle.std.proofs.Common.{◌≡◌, ◌≢◌, ℕ, ◌+◌, ◌-◌, ◌<◌, ◌<ℤ◌, ℤ, ◌⊎◌, ⊎_elim, inl, inr, List, [], ◌∷◌, ◌++◌, map, length, append_assoc, append-nil, refl, sym, ap, ◌∙◌, subst, arith, zero, suc, Option, Some, None}
+use Rattle.std.proofs.Common.{◌≡◌, ◌≢◌, ℕ, ◌+◌, ◌<ℤ◌, ℤ, ◌⊎◌, ⊎_elim, inl, inr, List, [], ◌∷◌, ◌++◌, map, length, append_assoc, append-nil, refl, sym, ap, ◌∙◌, subst, arith, zero, suc, Option, Some, None}
 use Rattle.std.proofs.lemmas.Bool.{cases_eq}
-use Rattle.slab.specs.Slab.{Slab, get, slab_len}
+use Rattle.slab.specs.Slab.{Slab, get, slab_len, Updates}
 use Rattle.clu_state.specs.State.{State, IsState, IsFree, decided}
 use Rattle.clu_state.specs.declared.decision.Decision.TheVariants.{Together, Apart}
 use Rattle.clu_node.specs.declared.bound.NodeBound.{NodeBound}
@@ -10,7 +10,8 @@ use Rattle.clu_cert.specs.declared.certificate.Item.{Item}
 use Rattle.clu_cert.specs.declared.certificate.Item.TheVariants.{Reduce}
 use Rattle.clu_tree.specs.declared.node.Fresh.{Fresh}
 use Rattle.clu_tree.specs.declared.node.Node.{Node}
-use Rattle.clu_tree.specs.Nodes.{HasKey, LeafAt, AreTrees, IsFit, state_from, new_leaf, split_nodes, node_item, items_of}
+use Rattle.clu_tree.specs.declared.node.Standing.TheVariants.{Unsplit}
+use Rattle.clu_tree.specs.Nodes.{Shown, HasKey, LeafAt, AreTrees, IsFit, split_on, state_from, new_leaf, split_nodes, node_item, items_of}
 use Rattle.clu_tree.specs.Links.{shown, then_next, follow, NotAmong, KeysDiffer, AreLinked, Attached, SameNodes, leaf_node, side_of}
 use Rattle.clu_tree.proofs.SplitLaws.{split_here, split_later, leaf_later, split_length, split_differ, split_trees}
 
@@ -61,7 +62,7 @@ pub record Replaced (old new : Slab Node) (key : ℕ) (pair : ℕ × ℕ) (keys 
   pub had : get old key ≡ Some n
   pub first_vacant : get old keys.0 ≡ None
   pub second_vacant : get old keys.1 ≡ None
-  pub split : get new key ≡ Some (record n { cut = Some pair; next = keys.0 })
+  pub split : get new key ≡ Some (record n { standing = split_on pair n.standing; next = keys.0 })
   pub first : get new keys.0 ≡ Some x
   pub first_next : x.next ≡ keys.1
   pub second : get new keys.1 ≡ Some y
@@ -85,10 +86,10 @@ module _ (old new : Slab Node) (key : ℕ) (pair keys : ℕ × ℕ) (n x y : Nod
   -- the links from the key on
   from_key : (more : ℕ) → length (follow more old n.next) ≡ more → NotAmong key (follow more old n.next)
       → follow (suc (suc (suc more))) new key
-      ≡ record (shown key n) { cut = Some pair } ∷ shown keys.0 x ∷ shown keys.1 y ∷ follow more old n.next
+      ≡ record (shown key n) { standing = split_on pair n.standing } ∷ shown keys.0 x ∷ shown keys.1 y ∷ follow more old n.next
   from_key more l d =
-      follow_some (suc (suc more)) new key (record n { cut = Some pair; next = keys.0 }) a.split
-      ∙ ap (λ ns. record (shown key n) { cut = Some pair } ∷ ns) (follow_some (suc more) new keys.0 x a.first
+      follow_some (suc (suc more)) new key (record n { standing = split_on pair n.standing; next = keys.0 }) a.split
+      ∙ ap (λ ns. record (shown key n) { standing = split_on pair n.standing } ∷ ns) (follow_some (suc more) new keys.0 x a.first
       ∙ ap (λ ns. shown keys.0 x ∷ ns) (ap (λ j. follow (suc more) new j) a.first_next ∙ follow_some more new keys.1 y a.second
       ∙ ap (λ ns. shown keys.1 y ∷ ns) (ap (λ j. follow more new j) a.second_next ∙ later_stays more n.next l d)))
 
@@ -107,8 +108,8 @@ module _ (old new : Slab Node) (key : ℕ) (pair keys : ℕ × ℕ) (n x y : Nod
       ap (follow (suc (suc (suc more))) new) s
       ∙ from_key more (subst (λ (m : Node). length (follow more old m.next) ≡ more) i w.2)
       (subst (λ (m : Node). NotAmong key (follow more old m.next)) i (subst (λ j. NotAmong j later) s e.0))
-      ∙ ap (λ (m : Node). record (shown key m) { cut = Some pair } ∷ shown keys.0 x ∷ shown keys.1 y ∷ follow more old m.next) (sym i)
-      ∙ ap (λ j. record (shown j w.0) { cut = Some pair } ∷ shown keys.0 x ∷ shown keys.1 y ∷ later) (sym s)
+      ∙ ap (λ (m : Node). record (shown key m) { standing = split_on pair m.standing } ∷ shown keys.0 x ∷ shown keys.1 y ∷ follow more old m.next) (sym i)
+      ∙ ap (λ j. record (shown j w.0) { standing = split_on pair w.0.standing } ∷ shown keys.0 x ∷ shown keys.1 y ∷ later) (sym s)
       ∙ sym (split_here key pair (shown keys.0 x) (shown keys.1 y) (shown k w.0) later s)
       ∙ ap (split_nodes key pair (shown keys.0 x) (shown keys.1 y)) (sym p))
       (λ s.
@@ -133,36 +134,36 @@ key_node (suc more) s at k h = ⊎_elim
     by m g (inr q) f = f q
 
 -- a shown node that isn't split is a leaf
-pub uncut_leaf : (more : ℕ) (s : Slab Node) (at k : ℕ) (n : Node) → HasKey k (follow more s at) → get s k ≡ Some n → n.cut ≡ None
-    → LeafAt k n.bound (follow more s at)
-uncut_leaf zero s at k n h e c = absurd h
-uncut_leaf (suc more) s at k n h e c = ⊎_elim
+pub unsplit_leaf : (more : ℕ) (s : Slab Node) (at k : ℕ) (node : NodeBound) (n : Node) → HasKey k (follow more s at) → get s k ≡ Some n
+    → n.standing ≡ Unsplit node → LeafAt k node (follow more s at)
+unsplit_leaf zero s at k node n h e c = absurd h
+unsplit_leaf (suc more) s at k node n h e c = ⊎_elim
     (λ g. absurd (subst (HasKey k) (follow_none more s at g) h))
     (λ w.
     let p = follow_some more s at w.0 w.1 in
-    subst (LeafAt k n.bound) (sym p) (by w.0 w.1 (subst (HasKey k) p h) (λ g. uncut_leaf more s w.0.next k n g e c)))
+    subst (LeafAt k node) (sym p) (by w.0 w.1 (subst (HasKey k) p h) (λ g. unsplit_leaf more s w.0.next k node n g e c)))
     (options (get s at))
   where
     by : (m : Node) → get s at ≡ Some m → HasKey k (shown at m ∷ follow more s m.next)
-        → (HasKey k (follow more s m.next) → LeafAt k n.bound (follow more s m.next)) → LeafAt k n.bound (shown at m ∷ follow more s m.next)
+        → (HasKey k (follow more s m.next) → LeafAt k node (follow more s m.next)) → LeafAt k node (shown at m ∷ follow more s m.next)
     by m g (inl q) f =
         let i : m ≡ n = some_one (get s k) m n (ap (get s) (sym q) ∙ g) e in
-        inl (q, ap (λ (r : Node). r.bound) i, ap (λ (r : Node). r.cut) i ∙ c)
+        inl (q, ap (λ (r : Node). r.standing) i ∙ c)
     by m g (inr q) f = inr (f q)
 
 -- and a leaf is a shown node that isn't split
-pub leaf_uncut : (more : ℕ) (s : Slab Node) (at k : ℕ) (node : NodeBound) → LeafAt k node (follow more s at)
-    → (n : Node) × (get s k ≡ Some n) × (n.bound ≡ node) × (n.cut ≡ None)
-leaf_uncut zero s at k node h = absurd h
-leaf_uncut (suc more) s at k node h = ⊎_elim
+pub leaf_unsplit : (more : ℕ) (s : Slab Node) (at k : ℕ) (node : NodeBound) → LeafAt k node (follow more s at)
+    → (n : Node) × (get s k ≡ Some n) × (n.standing ≡ Unsplit node)
+leaf_unsplit zero s at k node h = absurd h
+leaf_unsplit (suc more) s at k node h = ⊎_elim
     (λ g. absurd (subst (LeafAt k node) (follow_none more s at g) h))
-    (λ w. by w.0 w.1 (subst (LeafAt k node) (follow_some more s at w.0 w.1) h) (λ g. leaf_uncut more s w.0.next k node g))
+    (λ w. by w.0 w.1 (subst (LeafAt k node) (follow_some more s at w.0 w.1) h) (λ g. leaf_unsplit more s w.0.next k node g))
     (options (get s at))
   where
     by : (m : Node) → get s at ≡ Some m → LeafAt k node (shown at m ∷ follow more s m.next)
-        → (LeafAt k node (follow more s m.next) → (n : Node) × (get s k ≡ Some n) × (n.bound ≡ node) × (n.cut ≡ None))
-        → (n : Node) × (get s k ≡ Some n) × (n.bound ≡ node) × (n.cut ≡ None)
-    by m g (inl q) f = (m, ap (get s) (sym q.0) ∙ g, q.1, q.2)
+        → (LeafAt k node (follow more s m.next) → (n : Node) × (get s k ≡ Some n) × (n.standing ≡ Unsplit node))
+        → (n : Node) × (get s k ≡ Some n) × (n.standing ≡ Unsplit node)
+    by m g (inl q) f = (m, ap (get s) (sym q.0) ∙ g, q.1)
     by m g (inr q) f = f q
 
 -- ---- the tree after a split
@@ -186,7 +187,7 @@ pub split_shown : (old new : Slab Node) (first : ℕ) (root : State) (floor : �
     → AreLinked old first root floor → LeafAt key node (follow (slab_len old) old first) → Attached old new key pair together apart keys
     → follow (slab_len new) new first ≡ split_nodes key pair (new_leaf keys.0 together) (new_leaf keys.1 apart) (follow (slab_len old) old first)
 split_shown old new first root floor key node pair together apart keys l o a =
-    let w = leaf_uncut (slab_len old) old first key node o in
+    let w = leaf_unsplit (slab_len old) old first key node o in
     ap (λ k. follow k new first) (two_more (slab_len new) (slab_len old) a.len)
     ∙ grown old new key pair keys w.0 (leaf_node together keys.1 (side_of key (Together pair.0 pair.1))) (leaf_node apart w.0.next (side_of key (Apart pair.0 pair.1)))
     (replaced old new key pair together apart keys w.0 w.1 a) node (slab_len old) first l.all l.differ o
@@ -211,7 +212,8 @@ split_linked old new first root floor key node pair together apart keys l o a w 
       differ = subst KeysDiffer (sym same) (split_differ key pair x y ns l.differ
           (vacant_not_among (slab_len old) old first keys.0 a.first_vacant) (vacant_not_among (slab_len old) old first keys.1 a.second_vacant) a.differ);
       trees = subst (λ ms. AreTrees floor ms (root ∷ [])) (sym same)
-          (split_trees floor key node pair x y ns (root ∷ []) root l.differ o l.trees refl refl w z f g h);
+          (split_trees floor key node pair x y ns (root ∷ []) root l.differ o l.trees (record { node = together.bound; is = refl })
+          (record { node = apart.bound; is = refl }) w z f g h);
     }
 
 -- ---- an arena that has the same nodes
@@ -239,35 +241,58 @@ one_linked nodes first next root floor fresh e l i f =
       state = i;
       all = ap length p ∙ sym l;
       differ = subst KeysDiffer (sym p) (tt, tt);
-      trees = subst (λ ns. AreTrees floor ns (root ∷ [])) (sym p) (f.steps, f.bounded, tt, tt);
+      trees = subst (λ ns. AreTrees floor ns (root ∷ [])) (sym p) (f.steps, f.bounded, tt);
     }
 
--- ---- the walk along the links
-pub walk_there : (left : ℕ) (s : Slab Node) (key : ℕ) → 0 < left → length (follow left s key) ≡ left
-    → (n : Node) × (get s key ≡ Some n) × (follow left s key ≡ shown key n ∷ follow (left - 1) s n.next)
-walk_there zero s key p l = absurd (omega (arith, p))
-walk_there (suc more) s key p l =
-    let w = first_there more s key l in
-    let e : suc more - 1 ≡ more = omega arith in
-    (w.0, w.1, follow_some more s key w.0 w.1 ∙ ap (λ j. shown key w.0 ∷ follow j s w.0.next) (sym e))
+-- ---- the walk along the links, on which each node is taken out
+-- links that don't come to the key that is taken out stay
+out_stays : (more : ℕ) (old new : Slab Node) (key k : ℕ) → Updates old new key None → length (follow more old k) ≡ more → NotAmong key (follow more old k)
+    → follow more new k ≡ follow more old k
+out_stays zero old new key k u l d = refl
+out_stays (suc more) old new key k u l d =
+    let w = first_there more old k l in
+    let p = follow_some more old k w.0 w.1 in
+    let e = subst (NotAmong key) p d in
+    follow_some more new k w.0 (u.others k e.0 ∙ w.1) ∙ ap (λ ns. shown k w.0 ∷ ns) (out_stays more old new key w.0.next u w.2 e.1) ∙ sym p
 
-pub walk_step : (left : ℕ) (s : Slab Node) (key : ℕ) (n : Node) (old new all : List Item) → 0 < left → length (follow left s key) ≡ left → get s key ≡ Some n
-    → new ≡ (old ++ map Reduce n.steps) ++ node_item n.bound n.cut ∷ [] → old ++ items_of (follow left s key) ≡ all
-    → (new ++ items_of (follow (left - 1) s n.next) ≡ all) × (length (follow (left - 1) s n.next) ≡ left - 1)
-walk_step left s key n old new all p l e f h =
-    let w = walk_there left s key p l in
-    let i : w.0 ≡ n = some_one (get s key) w.0 n w.1 e in
-    let later = follow (left - 1) s n.next in
-    let g : follow left s key ≡ shown key n ∷ later = w.2 ∙ ap (λ (m : Node). shown key m ∷ follow (left - 1) s m.next) i in
-    let len = ap length g in (
-      ap (λ xs. xs ++ items_of later) f ∙ shift old (map Reduce n.steps) (node_item n.bound n.cut) (items_of later)
-          ∙ ap (λ ns. old ++ items_of ns) (sym g) ∙ h,
-      omega (arith, l, len, p),
-    )
+-- the nodes along the links are all that the arena has, and the items that are told and theirs are the whole
+pub record AreLeft (nodes : Slab Node) (at : ℕ) (told items : List Item) : Type 0 where
+  pub whole : told ++ items_of (follow (slab_len nodes) nodes at) ≡ items
+  pub all : length (follow (slab_len nodes) nodes at) ≡ slab_len nodes
+  pub differ : KeysDiffer (follow (slab_len nodes) nodes at)
+
+-- one node is taken out and its items are told
+pub left_step : (old new : Slab Node) (at : ℕ) (n : Node) (told more all : List Item) → AreLeft old at told all → get old at ≡ Some n
+    → Updates old new at None → slab_len new + 1 ≡ slab_len old → more ≡ (told ++ map Reduce n.steps) ++ node_item n.standing ∷ []
+    → AreLeft new n.next more all
+left_step old new at n told more all a g u l f = record {
+  whole = ap (λ ns. more ++ items_of ns) same ∙ ap (λ xs. xs ++ items_of rest) f
+      ∙ shift told (map Reduce n.steps) (node_item n.standing) (items_of rest) ∙ ap (λ ns. told ++ items_of ns) (sym shows) ∙ a.whole;
+  all = ap length same ∙ (let h = ap length shows in let i = a.all in omega (arith, h, i, l));
+  differ = subst KeysDiffer (sym same) (subst KeysDiffer shows a.differ).1;
+}
   where
+    rest : List Shown
+    rest = follow (slab_len new) old n.next
+
+    shows : follow (slab_len old) old at ≡ shown at n ∷ follow (slab_len new) old n.next
+    shows = ap (λ k. follow k old at) (one_more (slab_len old) (slab_len new) l) ∙ follow_some (slab_len new) old at n g
+      where
+        one_more : (b c : ℕ) → c + 1 ≡ b → b ≡ suc c
+        one_more b c e = omega (arith, e)
+
+    same : follow (slab_len new) new n.next ≡ follow (slab_len new) old n.next
+    same = out_stays (slab_len new) old new at n.next u (let h = ap length shows in let i = a.all in omega (arith, h, i, l))
+        (subst KeysDiffer shows a.differ).0
+
     shift : (xs ys : List Item) (z : Item) (zs : List Item) → ((xs ++ ys) ++ (z ∷ [])) ++ zs ≡ xs ++ (ys ++ (z ∷ zs))
     shift xs ys z zs = append_assoc (xs ++ ys) (z ∷ []) zs ∙ append_assoc xs ys (z ∷ zs)
 
-pub walk_ends : (left : ℕ) (s : Slab Node) (key : ℕ) (items all : List Item) → left ≡ 0 → items ++ items_of (follow left s key) ≡ all → items ≡ all
-walk_ends zero s key items all e h = sym (append-nil items) ∙ h
-walk_ends (suc left) s key items all e h = absurd (omega (arith, e))
+-- where no node has the key, all are told
+pub left_none : (nodes : Slab Node) (at : ℕ) (told all : List Item) → AreLeft nodes at told all → get nodes at ≡ None → told ≡ all
+left_none nodes at told all a e =
+    sym (append-nil told) ∙ ap (λ ns. told ++ items_of ns) (sym (nothing (slab_len nodes))) ∙ a.whole
+  where
+    nothing : (more : ℕ) → follow more nodes at ≡ []
+    nothing zero = refl
+    nothing (suc more) = follow_none more nodes at e

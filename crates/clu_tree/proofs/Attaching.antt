@@ -6,6 +6,8 @@ use Rattle.slab.proofs.SlabLemmas.{Updates-with_value, ContainsKey-within}
 use Rattle.clu_state.specs.declared.decision.Decision.TheVariants.{Together, Apart}
 use Rattle.clu_tree.specs.declared.node.Fresh.{Fresh}
 use Rattle.clu_tree.specs.declared.node.Node.{Node}
+use Rattle.clu_tree.specs.declared.node.Standing.{Standing}
+use Rattle.clu_tree.specs.Nodes.{split_on}
 use Rattle.clu_tree.specs.Links.{Attached, leaf_node, side_of}
 use Rattle.clu_tree.proofs.Arena.{some_one, not_none}
 use Rattle.clu_tree.proofs.Queued.{there_is}
@@ -62,14 +64,15 @@ module _ (old room one two three : Slab Node) (key p q : ℕ) (n m x y w : Node)
   key_three : n ≡ m
   key_three = some_one (get three key) n m (link.others key first_differs ∙ i.second.others key second_differs ∙ key_one) i.has
 
-pub attached : (old room one two three : Slab Node) (key p q later : ℕ) (pair : ℕ × ℕ) (together apart : Fresh) (n m w : Node)
+pub attached : (old room one two three : Slab Node) (key p q later : ℕ) (pair : ℕ × ℕ) (together apart : Fresh) (n m w : Node) (standing : Standing)
     → Inserted old room one two three key p q n m (leaf_node together later (side_of key (Together pair.0 pair.1)))
     (leaf_node apart n.next (side_of key (Apart pair.0 pair.1))) w
-    → Attached old (with_value three key (record m { cut = Some pair; next = p })) key pair together apart (p, q)
-attached old room one two three key p q later pair together apart n m w i =
+    → standing ≡ split_on pair m.standing
+    → Attached old (with_value three key (record m { standing = standing; next = p })) key pair together apart (p, q)
+attached old room one two three key p q later pair together apart n m w standing i z =
     let x = leaf_node together later (side_of key (Together pair.0 pair.1)) in
     let y = leaf_node apart n.next (side_of key (Apart pair.0 pair.1)) in
-    let now = record m { cut = Some pair; next = p } in
+    let now = record m { standing = standing; next = p } in
     let written = Updates-with_value three key now (there_is (get three key) m i.has) in
     let linked = link old room one two three key p q n m x y w i in
     let was = same old room one two three key p q n m x y w i in
@@ -91,7 +94,7 @@ attached old room one two three key p q later pair together apart n m w i =
           ∙ ap (λ (r : Node). Some (record r { next = q })) (first_is old room one two three key p q n m x y w i);
       second = λ k e. written.others q (λ f. not_second (sym f)) ∙ linked.others q (λ f. differ (sym f)) ∙ i.second.changed
           ∙ ap (λ (r : Node). Some (leaf_node apart r.next (side_of key (Apart pair.0 pair.1)))) (had k e);
-      split = λ k e. written.changed ∙ ap (λ (r : Node). Some (record r { cut = Some pair; next = p }))
+      split = λ k e. written.changed ∙ ap (λ (c : Standing). Some (record m { standing = c; next = p })) z ∙ ap (λ (r : Node). Some (record r { standing = split_on pair r.standing; next = p }))
           (sym (key_three old room one two three key p q n m x y w i) ∙ had k e);
       others = λ k d e f. written.others k d ∙ linked.others k e ∙ i.second.others k f ∙ i.first.others k e ∙ was k;
     }

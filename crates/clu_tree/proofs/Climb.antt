@@ -13,14 +13,14 @@ use Rattle.clu_cert.specs.Valid.{stepped}
 use Rattle.clu_cert.proofs.States.{stepped_is}
 use Rattle.clu_tree.specs.declared.node.Node.{Node}
 use Rattle.clu_tree.specs.declared.node.Origin.{Origin}
-use Rattle.clu_tree.specs.Nodes.{Shown, HasKey, LeafAt, AreTrees, state_from, split_nodes}
+use Rattle.clu_tree.specs.Nodes.{Shown, HasKey, HasLeaf, LeafAt, AreTrees, state_from, split_nodes}
 use Rattle.clu_tree.specs.Links.{shown, NotAmong, KeysDiffer, Comes, AreClimbed}
 use Rattle.clu_tree.proofs.Arena.{some_one}
 use Rattle.clu_tree.proofs.SplitLaws.{leaf_key, other_key, key_kept, key_was, state_kept, state_new}
 
 -- ---- after a split
 pub comes_kept : (floor : ℤ) (key : ℕ) (node : NodeBound) (pair : ℕ × ℕ) (x y : Shown) (ns : List Shown) (root : State)
-    → KeysDiffer ns → LeafAt key node ns → AreTrees floor ns (root ∷ []) → x.cut ≡ None → y.cut ≡ None → NotAmong x.key ns → NotAmong y.key ns
+    → KeysDiffer ns → LeafAt key node ns → AreTrees floor ns (root ∷ []) → HasLeaf x.standing → HasLeaf y.standing → NotAmong x.key ns → NotAmong y.key ns
     → (k : ℕ) (steps : List Step) (origin : Option Origin) → HasKey k ns → Comes ns root k steps origin
     → Comes (split_nodes key pair x y ns) root k steps origin
 comes_kept floor key node pair x y ns root d l t ex ey ax ay k steps None h c =
@@ -34,7 +34,7 @@ comes_kept floor key node pair x y ns root d l t ex ey ax ay k steps (Some origi
 )
 
 pub comes_new : (floor : ℤ) (key : ℕ) (node : NodeBound) (pair : ℕ × ℕ) (x y : Shown) (ns : List Shown) (root : State)
-    → KeysDiffer ns → LeafAt key node ns → AreTrees floor ns (root ∷ []) → x.cut ≡ None → y.cut ≡ None → NotAmong x.key ns → NotAmong y.key ns → x.key ≢ y.key
+    → KeysDiffer ns → LeafAt key node ns → AreTrees floor ns (root ∷ []) → HasLeaf x.standing → HasLeaf y.standing → NotAmong x.key ns → NotAmong y.key ns → x.key ≢ y.key
     → Comes (split_nodes key pair x y ns) root x.key x.steps (Some (record { parent = key; decision = Together pair.0 pair.1 }))
     × Comes (split_nodes key pair x y ns) root y.key y.steps (Some (record { parent = key; decision = Apart pair.0 pair.1 }))
 comes_new floor key node pair x y ns root d l t ex ey ax ay n =
@@ -59,7 +59,7 @@ pub record SplitFrom (old new : Slab Node) (key : ℕ) (pair : ℕ × ℕ) (p q 
   pub others : (k : ℕ) → k ≢ key → k ≢ p → k ≢ q → get new k ≡ get old k
 
 pub climbed_split : (old new : Slab Node) (floor : ℤ) (key : ℕ) (node : NodeBound) (pair : ℕ × ℕ) (p q : ℕ) (n m x y : Node) (ns : List Shown) (root : State)
-    → KeysDiffer ns → LeafAt key node ns → AreTrees floor ns (root ∷ []) → NotAmong p ns → NotAmong q ns → p ≢ q → x.cut ≡ None → y.cut ≡ None
+    → KeysDiffer ns → LeafAt key node ns → AreTrees floor ns (root ∷ []) → NotAmong p ns → NotAmong q ns → p ≢ q → HasLeaf x.standing → HasLeaf y.standing
     → SplitFrom old new key pair p q n m x y → AreClimbed old ns root → AreClimbed new (split_nodes key pair (shown p x) (shown q y) ns) root
 climbed_split old new floor key node pair p q n m x y ns root d l t ap' aq pq ex ey w c k j h g = ⊎_elim
     (λ e. ⊎_elim

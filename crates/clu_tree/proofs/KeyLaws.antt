@@ -1,5 +1,5 @@
--- What a key of a tree has: a node in the arena, one bound, and a state.
-use Rattle.std.proofs.Common.{◌≡◌, ◌≢◌, ℕ, ℤ, ⊎_elim, inl, inr, List, [], ◌∷◌, ◌++◌, map, refl, sym, ap, ◌∙◌, subst, Option, Some, None, IsSome, zero, suc}
+-- What a key of a tree has: a node in the arena, one bound where it is a leaf, and a state.
+use Rattle.std.proofs.Common.{◌≡◌, ℕ, ℤ, ⊎_elim, List, [], ◌∷◌, ◌++◌, map, refl, sym, ap, ◌∙◌, subst, Some, IsSome}
 use Rattle.std.proofs.lemmas.Bool.{cases_eq}
 use Rattle.slab.specs.Slab.{Slab, get, slab_len, ContainsKey}
 use Rattle.clu_partition.proofs.SumLaws.{Each}
@@ -13,64 +13,38 @@ use Rattle.clu_node.specs.declared.bound.NodeBound.{NodeBound}
 use Rattle.clu_cert.specs.Valid.{AllHold, stepped}
 use Rattle.clu_cert.proofs.States.{stepped_is, stepped_state}
 use Rattle.clu_tree.specs.declared.node.Node.{Node}
-use Rattle.clu_tree.specs.Nodes.{Shown, pending, state_from, HasKey, BoundAt, IsCut, AreTrees}
-use Rattle.clu_tree.specs.Links.{shown, then_next, follow, NotAmong, KeysDiffer, AreLinked}
-use Rattle.clu_tree.proofs.Arena.{options, some_one, follow_some}
-use Rattle.clu_tree.proofs.SplitLaws.{state_here, state_later, not_key}
+use Rattle.clu_tree.specs.declared.node.Branch.{Branch}
+use Rattle.clu_tree.specs.declared.node.Standing.{Standing}
+use Rattle.clu_tree.specs.declared.node.Standing.TheVariants.{Unsplit, Split}
+use Rattle.clu_tree.specs.Nodes.{Shown, pending, state_from, HasKey, LeafAt, Stands, AreTrees}
+use Rattle.clu_tree.specs.Links.{follow, KeysDiffer, AreLinked}
+use Rattle.clu_tree.proofs.Arena.{some_one, key_node, leaf_unsplit}
+use Rattle.clu_tree.proofs.SplitLaws.{state_here, state_later, leaf_here, leaf_later}
 
--- ---- the node of a key
--- the node in the arena with a key of the tree, which the tree shows
-pub key_there : (more : ℕ) (s : Slab Node) (first key : ℕ) → HasKey key (follow more s first)
-    → (n : Node) × (get s key ≡ Some n) × BoundAt key n.bound (follow more s first)
-key_there zero s first key h = absurd h
-key_there (suc more) s first key h = ⊎_elim
-    (λ e. absurd (subst (HasKey key) (ap (λ o. then_next first o (λ next. follow more s next)) e) h))
-    (λ w. by w.0 w.1 (subst (HasKey key) (follow_some more s first w.0 w.1) h) (λ i. key_there more s w.0.next key i))
-    (options (get s first))
-  where
-    by : (n : Node) → get s first ≡ Some n → HasKey key (shown first n ∷ follow more s n.next)
-        → (HasKey key (follow more s n.next) → (m : Node) × (get s key ≡ Some m) × BoundAt key m.bound (follow more s n.next))
-        → (m : Node) × (get s key ≡ Some m) × BoundAt key m.bound (follow (suc more) s first)
-    by n e (inl i) f = (n, ap (get s) (sym i) ∙ e, subst (BoundAt key n.bound) (sym (follow_some more s first n e)) (inl (i, refl)))
-    by n e (inr i) f = let w = f i in (w.0, w.1, subst (BoundAt key w.0.bound) (sym (follow_some more s first n e)) (inr w.2))
+-- ---- the bound of a leaf
+pub split_is : (branch : Branch) (node : NodeBound) → Split branch ≡ Unsplit node → ⊥
+split_is branch node e = cc
 
-pub bound_there : (more : ℕ) (s : Slab Node) (first key : ℕ) (n : Node) → HasKey key (follow more s first) → get s key ≡ Some n
-    → BoundAt key n.bound (follow more s first)
-bound_there more s first key n h e =
-    let w = key_there more s first key h in
-    subst (λ (m : Node). BoundAt key m.bound (follow more s first)) (some_one (get s key) w.0 n w.1 e) w.2
+pub unsplit_once : (node other : NodeBound) → Unsplit node ≡ Unsplit other → node ≡ other
+unsplit_once node other e = cc
 
--- ---- the bound of a key
-bound_key : (key : ℕ) (node : NodeBound) (ns : List Shown) → BoundAt key node ns → HasKey key ns
-bound_key key node [] b = b
-bound_key key node (n ∷ ns) (inl b) = inl b.0
-bound_key key node (n ∷ ns) (inr b) = inr (bound_key key node ns b)
-
-pub bound_here : (key : ℕ) (node : NodeBound) (n : Shown) (ns : List Shown) → NotAmong n.key ns → n.key ≡ key → BoundAt key node (n ∷ ns) → n.node ≡ node
-bound_here key node n ns a e (inl b) = b.1
-bound_here key node n ns a e (inr b) = absurd (not_key key ns (subst (λ k. NotAmong k ns) e a) (bound_key key node ns b))
-
-pub bound_later : (key : ℕ) (node : NodeBound) (n : Shown) (ns : List Shown) → n.key ≢ key → BoundAt key node (n ∷ ns) → BoundAt key node ns
-bound_later key node n ns e (inl b) = absurd (e b.0)
-bound_later key node n ns e (inr b) = b
-
-pub bound_once : (key : ℕ) (node other : NodeBound) (ns : List Shown) → KeysDiffer ns → BoundAt key node ns → BoundAt key other ns → other ≡ node
-bound_once key node other [] d b c = absurd b
-bound_once key node other (n ∷ ns) d b c = ⊎_elim
-    (λ e. sym (bound_here key other n ns d.0 e c) ∙ bound_here key node n ns d.0 e b)
-    (λ e. bound_once key node other ns d.1 (bound_later key node n ns e b) (bound_later key other n ns e c))
+pub leaf_once : (key : ℕ) (node other : NodeBound) (ns : List Shown) → KeysDiffer ns → LeafAt key node ns → LeafAt key other ns → other ≡ node
+leaf_once key node other [] d b c = absurd b
+leaf_once key node other (n ∷ ns) d b c = ⊎_elim
+    (λ e. unsplit_once other node (sym (leaf_here key other n ns d.0 e c) ∙ leaf_here key node n ns d.0 e b))
+    (λ e. leaf_once key node other ns d.1 (leaf_later key node n ns e b) (leaf_later key other n ns e c))
     (cases_eq n.key key)
 
 -- it bounds the state of the key
 pub bounded_at : (floor : ℤ) (key : ℕ) (node : NodeBound) (ns : List Shown) (states : List State) (other : State) → KeysDiffer ns → AreTrees floor ns states
-    → BoundAt key node ns → IsBounded (state_from key ns states other) node
+    → LeafAt key node ns → IsBounded (state_from key ns states other) node
 bounded_at floor key node [] states other d t b = absurd b
 bounded_at floor key node (n ∷ ns) [] other d t b = absurd t
 bounded_at floor key node (n ∷ ns) (s ∷ later) other d t b = ⊎_elim
     (λ e. subst (λ (u : State). IsBounded u node) (sym (state_here key n ns s other later e))
-    (subst (λ (m : NodeBound). IsBounded (stepped s n.steps) m) (bound_here key node n ns d.0 e b) t.1))
+    (subst (Stands floor (stepped s n.steps)) (leaf_here key node n ns d.0 e b) t.1))
     (λ e. subst (λ (u : State). IsBounded u node) (sym (state_later key n ns s other later e))
-    (bounded_at floor key node ns (pending n.cut (stepped s n.steps) later) other d.1 t.3 (bound_later key node n ns e b)))
+    (bounded_at floor key node ns (pending n.standing (stepped s n.steps) later) other d.1 t.2 (leaf_later key node n ns e b)))
     (cases_eq n.key key)
 
 -- ---- the state of a key
@@ -92,13 +66,14 @@ stepped_from root s steps f a =
           ∙ ap (λ ds. record root { decisions = ds }) (sym (ap (λ (t : State). t.decisions) e));
     }
 
-pending_from : (root s : State) (later : List State) (floor : ℤ) (node : NodeBound) (cut : Option (ℕ × ℕ)) → ComesFrom root s → Each (ComesFrom root) later
-    → IsCut floor s node cut → Each (ComesFrom root) (pending cut s later)
-pending_from root s later floor node None f e c = e
-pending_from root s later floor node (Some pair) f e c = (
-  record { state = decided_state s (Together pair.0 pair.1) f.state c.0; same = ap (λ (t : State). decided t (Together pair.0 pair.1)) f.same },
-  (record { state = decided_state s (Apart pair.0 pair.1) f.state c.0; same = ap (λ (t : State). decided t (Apart pair.0 pair.1)) f.same }, e),
-)
+pending_from : (root s : State) (later : List State) (floor : ℤ) (standing : Standing) → ComesFrom root s → Each (ComesFrom root) later
+    → Stands floor s standing → Each (ComesFrom root) (pending standing s later)
+pending_from root s later floor (Unsplit node) f e c = e
+pending_from root s later floor (Split branch) f e c =
+    let pair = branch.pair in (
+      record { state = decided_state s (Together pair.0 pair.1) f.state c.0; same = ap (λ (t : State). decided t (Together pair.0 pair.1)) f.same },
+      (record { state = decided_state s (Apart pair.0 pair.1) f.state c.0; same = ap (λ (t : State). decided t (Apart pair.0 pair.1)) f.same }, e),
+    )
 
 pub state_is_from : (floor : ℤ) (key : ℕ) (ns : List Shown) (states : List State) (other root : State) → ComesFrom root other → Each (ComesFrom root) states
     → AreTrees floor ns states → ComesFrom root (state_from key ns states other)
@@ -109,15 +84,22 @@ state_is_from floor key (n ∷ ns) (s ∷ later) other root o e t =
     ⊎_elim
     (λ q. subst (ComesFrom root) (sym (state_here key n ns s other later q)) f)
     (λ q. subst (ComesFrom root) (sym (state_later key n ns s other later q))
-    (state_is_from floor key ns (pending n.cut (stepped s n.steps) later) other root o
-    (pending_from root (stepped s n.steps) later floor n.node n.cut f e.1 t.2) t.3))
+    (state_is_from floor key ns (pending n.standing (stepped s n.steps) later) other root o
+    (pending_from root (stepped s n.steps) later floor n.standing f e.1 t.1) t.2))
     (cases_eq n.key key)
 
 -- ---- in the arena
 pub linked_contains : (nodes : Slab Node) (first : ℕ) (key : ℕ) → HasKey key (follow (slab_len nodes) nodes first) → ContainsKey nodes key
 linked_contains nodes first key h =
-    let w = key_there (slab_len nodes) nodes first key h in
+    let w = key_node (slab_len nodes) nodes first key h in
     subst (λ o. IsSome o) (sym w.1) refl
+
+-- a leaf's node isn't split
+pub linked_leaf : (nodes : Slab Node) (first : ℕ) (key : ℕ) (node : NodeBound) (n : Node) → LeafAt key node (follow (slab_len nodes) nodes first)
+    → get nodes key ≡ Some n → n.standing ≡ Unsplit node
+linked_leaf nodes first key node n l e =
+    let w = leaf_unsplit (slab_len nodes) nodes first key node l in
+    ap (λ (m : Node). m.standing) (some_one (get nodes key) n w.0 e w.1) ∙ w.2
 
 pub linked_from : (nodes : Slab Node) (first : ℕ) (root : State) (floor : ℤ) (key : ℕ) → AreLinked nodes first root floor
     → ComesFrom root (state_from key (follow (slab_len nodes) nodes first) (root ∷ []) root)
@@ -126,6 +108,6 @@ linked_from nodes first root floor key a =
     state_is_from floor key (follow (slab_len nodes) nodes first) (root ∷ []) root root r (r, tt) a.trees
 
 pub linked_bounded : (nodes : Slab Node) (first : ℕ) (root : State) (floor : ℤ) (key : ℕ) (node : NodeBound) → AreLinked nodes first root floor
-    → BoundAt key node (follow (slab_len nodes) nodes first)
+    → LeafAt key node (follow (slab_len nodes) nodes first)
     → IsBounded (state_from key (follow (slab_len nodes) nodes first) (root ∷ []) root) node
 linked_bounded nodes first root floor key node a b = bounded_at floor key node (follow (slab_len nodes) nodes first) (root ∷ []) root a.differ a.trees b

@@ -4,11 +4,10 @@ use Rattle.std.specs.List.Sorted.{IsPermutation}
 use Rattle.std.specs.declared.cmp.Reverse.{Reverse}
 use Rattle.slab.specs.Slab.{Slab, get, slab_len}
 use Rattle.clu_state.specs.State.{State, IsState}
-use Rattle.clu_node.specs.declared.bound.NodeBound.{NodeBound}
 use Rattle.clu_cert.specs.Valid.{stepped}
 use Rattle.clu_tree.specs.declared.node.Fresh.{Fresh}
 use Rattle.clu_tree.specs.declared.node.Node.{Node}
-use Rattle.clu_tree.specs.Nodes.{Shown, HasKey, BoundAt, LeafAt, AreTrees, IsFit, state_from}
+use Rattle.clu_tree.specs.Nodes.{Shown, HasKey, AreTrees, IsFit, state_from}
 use Rattle.clu_tree.specs.Links.{shown, then_next, follow, Comes, AreClimbed, IsWhole, leaf_node}
 use Rattle.clu_tree.specs.Queue.{entry}
 use Rattle.clu_tree.proofs.SplitLaws.{state_here}
@@ -62,11 +61,5 @@ pub one_whole : (nodes : Slab Node) (first next : ℕ) (root : State) (floor : �
 one_whole nodes first next root floor fresh es fs e l i f s p = record {
   linked = one_linked nodes first next root floor fresh e l i f;
   climbed = one_climbed nodes first (leaf_node fresh next None) root e l refl;
-  queued = one_queued nodes first (leaf_node fresh next None) es fs e l refl s p;
+  queued = one_queued nodes first (leaf_node fresh next None) fresh.bound es fs e l refl s p;
 }
-
--- ---- leaves
-pub leaf_bound : (key : ℕ) (node : NodeBound) (ns : List Shown) → LeafAt key node ns → BoundAt key node ns
-leaf_bound key node [] l = l
-leaf_bound key node (n ∷ ns) (inl l) = inl (l.0, l.1)
-leaf_bound key node (n ∷ ns) (inr l) = inr (leaf_bound key node ns l)

@@ -1,5 +1,5 @@
 -- What the answer of a split, of either kind, says of the tree.
-use Rattle.std.proofs.Common.{◌≡◌, ℕ, ℤ, ◌+◌, ◌⊎◌, ⊎_elim, inl, inr, List, [], ◌∷◌, refl, sym, ap, ◌∙◌, subst, arith, Result, Ok, Err, IfOk, OnOk, OnErr, Some}
+use Rattle.std.proofs.Common.{◌≡◌, ℕ, ℤ, ◌+◌, ◌⊎◌, ⊎_elim, inl, inr, List, [], ◌∷◌, refl, sym, ap, ◌∙◌, subst, arith, Result, Ok, Err, IfOk, OnOk, OnErr}
 use Rattle.std.proofs.lemmas.Bool.{cases_eq}
 use Rattle.std.specs.declared.cmp.Reverse.{Reverse}
 use Rattle.slab.specs.Slab.{Slab, slab_len}
@@ -9,11 +9,13 @@ use Rattle.clu_node.specs.declared.bound.NodeBound.{NodeBound}
 use Rattle.clu_tree.specs.declared.node.Fresh.{Fresh}
 use Rattle.clu_tree.specs.declared.node.Node.{Node}
 use Rattle.clu_tree.specs.Items.{branch_items}
-use Rattle.clu_tree.specs.Nodes.{Shown, Tree, items_of, state_at, BoundAt, LeafAt, IsOpen, IsFit, new_leaf, split_nodes}
+use Rattle.clu_tree.specs.declared.node.Standing.TheVariants.{Unsplit}
+use Rattle.clu_tree.specs.Nodes.{Shown, Tree, items_of, split_on, state_at, LeafAt, IsOpen, IsFit, new_leaf, split_nodes}
 use Rattle.clu_tree.specs.Links.{follow, AreLinked, AreClimbed, IsWhole, Attached, SameNodes, Requeued, leaf_node, side_of}
 use Rattle.clu_tree.proofs.SplitLaws.{split_here, split_later}
 use Rattle.clu_tree.proofs.Climb.{climbed_split}
-use Rattle.clu_tree.proofs.Arena.{leaf_uncut, vacant_not_among, split_shown, split_linked, same_shown, same_linked}
+use Rattle.clu_tree.proofs.Arena.{leaf_unsplit, vacant_not_among, split_shown, split_linked, same_shown, same_linked}
+use Rattle.clu_tree.proofs.KeyLaws.{split_is, unsplit_once}
 use Rattle.clu_tree.proofs.Queued.{split_queued, same_queued}
 use Rattle.clu_tree.proofs.Uppers.{branches_length}
 
@@ -26,12 +28,13 @@ split_climbed : (old new : Slab Node) (first : ℕ) (root : State) (floor : ℤ)
     → AreLinked old first root floor → LeafAt key node (follow (slab_len old) old first) → Attached old new key pair together apart keys
     → AreClimbed old (follow (slab_len old) old first) root → AreClimbed new (follow (slab_len new) new first) root
 split_climbed old new first root floor key node pair together apart keys l o a c =
-    let w = leaf_uncut (slab_len old) old first key node o in
+    let w = leaf_unsplit (slab_len old) old first key node o in
     subst (λ ns. AreClimbed new ns root) (sym (split_shown old new first root floor key node pair together apart keys l o a))
-    (climbed_split old new floor key node pair keys.0 keys.1 w.0 (record w.0 { cut = Some pair; next = keys.0 })
+    (climbed_split old new floor key node pair keys.0 keys.1 w.0 (record w.0 { standing = split_on pair w.0.standing; next = keys.0 })
     (leaf_node together keys.1 (side_of key (Together pair.0 pair.1))) (leaf_node apart w.0.next (side_of key (Apart pair.0 pair.1)))
     (follow (slab_len old) old first) root l.differ o l.trees
-    (vacant_not_among (slab_len old) old first keys.0 a.first_vacant) (vacant_not_among (slab_len old) old first keys.1 a.second_vacant) a.differ refl refl
+    (vacant_not_among (slab_len old) old first keys.0 a.first_vacant) (vacant_not_among (slab_len old) old first keys.1 a.second_vacant) a.differ
+    (record { node = together.bound; is = refl }) (record { node = apart.bound; is = refl })
     (record {
       had = w.1;
       has = a.split w.0 w.1;
@@ -86,34 +89,40 @@ pub same_value : {E : Type 0} (r : Result (ℕ × ℕ) E) (old new : Slab Node) 
 same_value (Ok keys) old new first root floor now v s = tt
 same_value (Err e) old new first root floor now v s = ap (λ ns. record { root = root; floor = floor; nodes = ns }) (same_shown old new first s) ∙ v
 
--- ---- what bounds the nodes
-bound_was : (other : ℕ) (node : NodeBound) (key : ℕ) (pair : ℕ × ℕ) (x y : Shown) (ns : List Shown) → BoundAt other node (split_nodes key pair x y ns)
-    → BoundAt other node ns ⊎ (((other ≡ x.key) × (node ≡ x.node)) ⊎ ((other ≡ y.key) × (node ≡ y.node)))
-bound_was other node key pair x y [] h = absurd h
-bound_was other node key pair x y (n ∷ ns) h = ⊎_elim
-    (λ e. here (subst (BoundAt other node) (split_here key pair x y n ns e) h))
-    (λ e. later (subst (BoundAt other node) (split_later key pair x y n ns e) h) (λ i. bound_was other node key pair x y ns i))
+-- ---- what bounds the leaves
+leaf_was : (other : ℕ) (node : NodeBound) (key : ℕ) (pair : ℕ × ℕ) (x y : Shown) (ns : List Shown) → LeafAt other node (split_nodes key pair x y ns)
+    → LeafAt other node ns ⊎ (((other ≡ x.key) × (x.standing ≡ Unsplit node)) ⊎ ((other ≡ y.key) × (y.standing ≡ Unsplit node)))
+leaf_was other node key pair x y [] h = absurd h
+leaf_was other node key pair x y (n ∷ ns) h = ⊎_elim
+    (λ e. here (subst (LeafAt other node) (split_here key pair x y n ns e) h))
+    (λ e. later (subst (LeafAt other node) (split_later key pair x y n ns e) h) (λ i. leaf_was other node key pair x y ns i))
     (cases_eq n.key key)
   where
-    here : BoundAt other node (record n { cut = Some pair } ∷ x ∷ y ∷ ns)
-        → BoundAt other node (n ∷ ns) ⊎ (((other ≡ x.key) × (node ≡ x.node)) ⊎ ((other ≡ y.key) × (node ≡ y.node)))
-    here (inl e) = inl (inl e)
-    here (inr (inl e)) = inr (inl (sym e.0, sym e.1))
-    here (inr (inr (inl e))) = inr (inr (sym e.0, sym e.1))
+    here : LeafAt other node (record n { standing = split_on pair n.standing } ∷ x ∷ y ∷ ns)
+        → LeafAt other node (n ∷ ns) ⊎ (((other ≡ x.key) × (x.standing ≡ Unsplit node)) ⊎ ((other ≡ y.key) × (y.standing ≡ Unsplit node)))
+    here (inl e) = absurd (split_is _ node e.1)
+    here (inr (inl e)) = inr (inl (sym e.0, e.1))
+    here (inr (inr (inl e))) = inr (inr (sym e.0, e.1))
     here (inr (inr (inr e))) = inl (inr e)
 
-    later : BoundAt other node (n ∷ split_nodes key pair x y ns)
-        → (BoundAt other node (split_nodes key pair x y ns) → BoundAt other node ns ⊎ (((other ≡ x.key) × (node ≡ x.node)) ⊎ ((other ≡ y.key) × (node ≡ y.node))))
-        → BoundAt other node (n ∷ ns) ⊎ (((other ≡ x.key) × (node ≡ x.node)) ⊎ ((other ≡ y.key) × (node ≡ y.node)))
+    later : LeafAt other node (n ∷ split_nodes key pair x y ns)
+        → (LeafAt other node (split_nodes key pair x y ns)
+        → LeafAt other node ns ⊎ (((other ≡ x.key) × (x.standing ≡ Unsplit node)) ⊎ ((other ≡ y.key) × (y.standing ≡ Unsplit node))))
+        → LeafAt other node (n ∷ ns) ⊎ (((other ≡ x.key) × (x.standing ≡ Unsplit node)) ⊎ ((other ≡ y.key) × (y.standing ≡ Unsplit node)))
     later (inl e) f = inl (inl e)
     later (inr i) f = ⊎_elim (λ j. inl (inr j)) (λ j. inr j) (f i)
 
 pub bounds_were : {E : Type 0} (r : Result (ℕ × ℕ) E) (now new : Tree) (key : ℕ) (pair : ℕ × ℕ) (together apart : Fresh)
     → IfOk r (λ keys. new ≡ record now { nodes = split_nodes key pair (new_leaf keys.0 together) (new_leaf keys.1 apart) now.nodes })
-    → IfOk r (λ keys. (other : ℕ) (node : NodeBound) → BoundAt other node new.nodes
-    → BoundAt other node now.nodes ⊎ (((other ≡ keys.0) × (node ≡ together.bound)) ⊎ ((other ≡ keys.1) × (node ≡ apart.bound))))
-bounds_were (Ok keys) now new key pair together apart e = λ other node h.
-    bound_was other node key pair (new_leaf keys.0 together) (new_leaf keys.1 apart) now.nodes (subst (λ (t : Tree). BoundAt other node t.nodes) e h)
+    → IfOk r (λ keys. (other : ℕ) (node : NodeBound) → LeafAt other node new.nodes
+    → LeafAt other node now.nodes ⊎ (((other ≡ keys.0) × (node ≡ together.bound)) ⊎ ((other ≡ keys.1) × (node ≡ apart.bound))))
+bounds_were (Ok keys) now new key pair together apart e = λ other node h. ⊎_elim
+    (λ i. inl i)
+    (λ i. ⊎_elim
+    (λ f. inr (inl (f.0, sym (unsplit_once together.bound node f.1))))
+    (λ f. inr (inr (f.0, sym (unsplit_once apart.bound node f.1))))
+    i)
+    (leaf_was other node key pair (new_leaf keys.0 together) (new_leaf keys.1 apart) now.nodes (subst (λ (t : Tree). LeafAt other node t.nodes) e h))
 bounds_were (Err x) now new key pair together apart e = tt
 
 -- ---- the branches

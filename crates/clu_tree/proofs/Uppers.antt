@@ -1,29 +1,30 @@
 -- The items of a tree: they are read whole from its root's state, their upper is the greatest bound of a leaf, and half of the
 -- nodes are branches.
-use Rattle.std.proofs.Common.{◌≡◌, ℕ, ◌+◌, ◌/◌, ℤ, ◌≤ℤ◌, inl, inr, List, [], ◌∷◌, ◌++◌, length, map, Option, Some, None, All, Contains, refl, sym, ap, ◌∙◌, subst, arith}
+use Rattle.std.proofs.Common.{◌≡◌, ℕ, ◌+◌, ◌/◌, ℤ, ◌≤ℤ◌, inl, inr, List, [], ◌∷◌, ◌++◌, length, map, All, Contains, refl, sym, ap, ◌∙◌, subst, arith}
 use Rattle.std.proofs.lemmas.List.Elements.{All-nil, All-cons, Contains-append_right}
 use Rattle.clu_state.specs.State.{State, decided}
 use Rattle.clu_state.specs.declared.decision.Decision.TheVariants.{Together, Apart}
 use Rattle.clu_reduce.specs.Reduction.{decision_of}
 use Rattle.clu_reduce.specs.declared.step.Step.{Step}
-use Rattle.clu_node.specs.Node.{IsBounded}
 use Rattle.clu_node.specs.declared.bound.NodeBound.{NodeBound}
 use Rattle.clu_cert.specs.Upper.{Reads, none, branch, reduce, leaf, HasUpper}
 use Rattle.clu_cert.specs.Valid.{AllHold, stepped}
 use Rattle.clu_cert.specs.declared.certificate.Item.{Item}
 use Rattle.clu_cert.specs.declared.certificate.Item.TheVariants.{Reduce, Leaf}
 use Rattle.clu_tree.specs.Items.{branch_items}
-use Rattle.clu_tree.specs.Nodes.{Shown, pending, IsCut, AreTrees, LeafAt, node_item, items_of}
+use Rattle.clu_tree.specs.declared.node.Standing.{Standing}
+use Rattle.clu_tree.specs.declared.node.Standing.TheVariants.{Unsplit, Split}
+use Rattle.clu_tree.specs.Nodes.{Shown, pending, Stands, AreTrees, LeafAt, node_item, items_of}
 
 -- ---- the bounds of the leaves
-abbrev with_bound : Option (ℕ × ℕ) → ℤ → List ℤ → List ℤ
-with_bound None bound bounds = bound ∷ bounds
-with_bound (Some pair) bound bounds = bounds
+abbrev with_bound : Standing → List ℤ → List ℤ
+with_bound (Unsplit node) bounds = node.bound ∷ bounds
+with_bound (Split b) bounds = bounds
 
 -- in preorder
 abbrev leaf_bounds : List Shown → List ℤ
 leaf_bounds [] = []
-leaf_bounds (n ∷ ns) = with_bound n.cut n.node.bound (leaf_bounds ns)
+leaf_bounds (n ∷ ns) = with_bound n.standing (leaf_bounds ns)
 
 -- ---- the reading
 steps_read : (steps : List Step) (s : State) (later left : List State) (items : List Item) (bounds : List ℤ) → AllHold s steps
@@ -32,12 +33,12 @@ steps_read [] s later left items bounds h r = r
 steps_read (step ∷ steps) s later left items bounds h r =
     reduce h.0 (steps_read steps (decided s (decision_of step)) later left items bounds h.1 r)
 
-item_reads : (floor : ℤ) (s : State) (later : List State) (node : NodeBound) (cut : Option (ℕ × ℕ)) (items : List Item) (bounds : List ℤ)
-    → IsBounded s node → IsCut floor s node cut → Reads (pending cut s later) items bounds []
-    → Reads (s ∷ later) (node_item node cut ∷ items) (with_bound cut node.bound bounds) []
-item_reads floor s later node None items bounds b c r =
+item_reads : (floor : ℤ) (s : State) (later : List State) (standing : Standing) (items : List Item) (bounds : List ℤ)
+    → Stands floor s standing → Reads (pending standing s later) items bounds []
+    → Reads (s ∷ later) (node_item standing ∷ items) (with_bound standing bounds) []
+item_reads floor s later (Unsplit node) items bounds b r =
     subst (λ bound. Reads (s ∷ later) (Leaf node.leaf ∷ items) (bound ∷ bounds) []) (sym b.bound) (leaf (record { den = b.den; rows = b.rows }) r)
-item_reads floor s later node (Some pair) items bounds b c r = branch c.0 r
+item_reads floor s later (Split _) items bounds b r = branch b.0 r
 
 trees_read : (floor : ℤ) (ns : List Shown) (states : List State) → AreTrees floor ns states → Reads states (items_of ns) (leaf_bounds ns) []
 trees_read floor [] [] t = none
@@ -45,34 +46,32 @@ trees_read floor [] (s ∷ later) t = absurd t
 trees_read floor (n ∷ ns) [] t = absurd t
 trees_read floor (n ∷ ns) (s ∷ later) t =
     let here = stepped s n.steps in
-    steps_read n.steps s later [] (node_item n.node n.cut ∷ items_of ns) (leaf_bounds (n ∷ ns)) t.0
-    (item_reads floor here later n.node n.cut (items_of ns) (leaf_bounds ns) t.1 t.2
-    (trees_read floor ns (pending n.cut here later) t.3))
+    steps_read n.steps s later [] (node_item n.standing ∷ items_of ns) (leaf_bounds (n ∷ ns)) t.0
+    (item_reads floor here later n.standing (items_of ns) (leaf_bounds ns) t.1
+    (trees_read floor ns (pending n.standing here later) t.2))
 
 -- ---- the upper
-first_bound : (cut : Option (ℕ × ℕ)) (bound : ℤ) (bounds : List ℤ) → cut ≡ None → Contains (with_bound cut bound bounds) bound
-first_bound None bound bounds e = (0, omega arith, refl)
-first_bound (Some pair) bound bounds e = absurd cc
+first_bound : (standing : Standing) (node : NodeBound) (bounds : List ℤ) → standing ≡ Unsplit node → Contains (with_bound standing bounds) node.bound
+first_bound standing node bounds e = subst (λ c. Contains (with_bound c bounds) node.bound) (sym e) (0, omega arith, refl)
 
-later_bound : (cut : Option (ℕ × ℕ)) (bound other : ℤ) (bounds : List ℤ) → Contains bounds other → Contains (with_bound cut bound bounds) other
-later_bound None bound other bounds c = Contains-append_right (bound ∷ []) bounds other c
-later_bound (Some pair) bound other bounds c = c
+later_bound : (standing : Standing) (other : ℤ) (bounds : List ℤ) → Contains bounds other → Contains (with_bound standing bounds) other
+later_bound (Unsplit node) other bounds c = Contains-append_right (node.bound ∷ []) bounds other c
+later_bound (Split b) other bounds c = c
 
 leaf_reached : (key : ℕ) (node : NodeBound) (ns : List Shown) → LeafAt key node ns → Contains (leaf_bounds ns) node.bound
 leaf_reached key node [] l = absurd l
-leaf_reached key node (n ∷ ns) (inl l) = subst (λ (m : NodeBound). Contains (leaf_bounds (n ∷ ns)) m.bound) l.1
-    (first_bound n.cut n.node.bound (leaf_bounds ns) l.2)
-leaf_reached key node (n ∷ ns) (inr l) = later_bound n.cut n.node.bound node.bound (leaf_bounds ns) (leaf_reached key node ns l)
+leaf_reached key node (n ∷ ns) (inl l) = first_bound n.standing node (leaf_bounds ns) l.1
+leaf_reached key node (n ∷ ns) (inr l) = later_bound n.standing node.bound (leaf_bounds ns) (leaf_reached key node ns l)
 
-one_more : (upper bound : ℤ) (cut : Option (ℕ × ℕ)) (bounds : List ℤ) → (cut ≡ None → bound ≤ℤ upper) → All (λ b. b ≤ℤ upper) bounds
-    → All (λ b. b ≤ℤ upper) (with_bound cut bound bounds)
-one_more upper bound None bounds f a = All-cons (λ b. b ≤ℤ upper) bound bounds (f refl) a
-one_more upper bound (Some pair) bounds f a = a
+one_more : (upper : ℤ) (standing : Standing) (bounds : List ℤ) → ((node : NodeBound) → standing ≡ Unsplit node → node.bound ≤ℤ upper)
+    → All (λ b. b ≤ℤ upper) bounds → All (λ b. b ≤ℤ upper) (with_bound standing bounds)
+one_more upper (Unsplit node) bounds f a = All-cons (λ b. b ≤ℤ upper) node.bound bounds (f node refl) a
+one_more upper (Split b) bounds f a = a
 
 all_most : (upper : ℤ) (ns : List Shown) → ((key : ℕ) (node : NodeBound) → LeafAt key node ns → node.bound ≤ℤ upper)
     → All (λ b. b ≤ℤ upper) (leaf_bounds ns)
 all_most upper [] f = All-nil (λ b. b ≤ℤ upper)
-all_most upper (n ∷ ns) f = one_more upper n.node.bound n.cut (leaf_bounds ns) (λ e. f n.key n.node (inl (refl, refl, e)))
+all_most upper (n ∷ ns) f = one_more upper n.standing (leaf_bounds ns) (λ node e. f n.key node (inl (refl, e)))
     (all_most upper ns (λ key node l. f key node (inr l)))
 
 -- the bound of a leaf that no leaf's bound passes is the upper
@@ -89,49 +88,51 @@ greatest_upper floor ns root key node upper t l e f = record {
 pub some_leaf : (floor : ℤ) (ns : List Shown) (s : State) (later : List State) → AreTrees floor ns (s ∷ later)
     → (key : ℕ) × (node : NodeBound) × LeafAt key node ns
 some_leaf floor [] s later t = absurd t
-some_leaf floor (n ∷ ns) s later t = by n.cut refl t.3 (λ r rs u. some_leaf floor ns r rs u)
+some_leaf floor (n ∷ ns) s later t = by n.standing refl t.2 (λ r rs u. some_leaf floor ns r rs u)
   where
-    by : (cut : Option (ℕ × ℕ)) → n.cut ≡ cut → AreTrees floor ns (pending cut (stepped s n.steps) later)
+    by : (standing : Standing) → n.standing ≡ standing → AreTrees floor ns (pending standing (stepped s n.steps) later)
         → ((r : State) (rs : List State) → AreTrees floor ns (r ∷ rs) → (key : ℕ) × (node : NodeBound) × LeafAt key node ns)
         → (key : ℕ) × (node : NodeBound) × LeafAt key node (n ∷ ns)
-    by None e u f = (n.key, n.node, inl (refl, refl, e))
-    by (Some pair) e u f =
+    by (Unsplit node) e u f = (n.key, node, inl (refl, e))
+    by (Split b) e u f =
+        let pair = b.pair in
         let w = f (decided (stepped s n.steps) (Together pair.0 pair.1)) (decided (stepped s n.steps) (Apart pair.0 pair.1) ∷ later) u in
         (w.0, w.1, inr w.2)
 
 -- ---- how many branches
-abbrev cuts_of : Option (ℕ × ℕ) → ℕ
-cuts_of None = 0
-cuts_of (Some pair) = 1
+abbrev splits_of : Standing → ℕ
+splits_of (Unsplit node) = 0
+splits_of (Split b) = 1
 
-abbrev cuts : List Shown → ℕ
-cuts [] = 0
-cuts (n ∷ ns) = cuts_of n.cut + cuts ns
+abbrev splits : List Shown → ℕ
+splits [] = 0
+splits (n ∷ ns) = splits_of n.standing + splits ns
 
 step_branches : (steps : List Step) (items : List Item) → branch_items (map Reduce steps ++ items) ≡ branch_items items
 step_branches [] items = refl
 step_branches (step ∷ steps) items = step_branches steps items
 
-item_branches : (node : NodeBound) (cut : Option (ℕ × ℕ)) (items : List Item) → branch_items (node_item node cut ∷ items) ≡ cuts_of cut + branch_items items
-item_branches node None items = omega arith
-item_branches node (Some pair) items = omega arith
+item_branches : (standing : Standing) (items : List Item) → branch_items (node_item standing ∷ items) ≡ splits_of standing + branch_items items
+item_branches (Unsplit node) items = omega arith
+item_branches (Split b) items = omega arith
 
-branches_cuts : (ns : List Shown) → branch_items (items_of ns) ≡ cuts ns
-branches_cuts [] = refl
-branches_cuts (n ∷ ns) = step_branches n.steps (node_item n.node n.cut ∷ items_of ns) ∙ item_branches n.node n.cut (items_of ns)
-    ∙ ap (λ k. cuts_of n.cut + k) (branches_cuts ns)
+branches_splits : (ns : List Shown) → branch_items (items_of ns) ≡ splits ns
+branches_splits [] = refl
+branches_splits (n ∷ ns) = step_branches n.steps (node_item n.standing ∷ items_of ns) ∙ item_branches n.standing (items_of ns)
+    ∙ ap (λ k. splits_of n.standing + k) (branches_splits ns)
 
-pending_length : (cut : Option (ℕ × ℕ)) (s : State) (later : List State) → length (pending cut s later) ≡ cuts_of cut + cuts_of cut + length later
-pending_length None s later = omega arith
-pending_length (Some pair) s later = omega arith
+pending_length : (standing : Standing) (s : State) (later : List State)
+    → length (pending standing s later) ≡ splits_of standing + splits_of standing + length later
+pending_length (Unsplit node) s later = omega arith
+pending_length (Split b) s later = omega arith
 
-trees_length : (floor : ℤ) (ns : List Shown) (states : List State) → AreTrees floor ns states → length ns ≡ cuts ns + cuts ns + length states
+trees_length : (floor : ℤ) (ns : List Shown) (states : List State) → AreTrees floor ns states → length ns ≡ splits ns + splits ns + length states
 trees_length floor [] [] t = omega arith
 trees_length floor [] (s ∷ later) t = absurd t
 trees_length floor (n ∷ ns) [] t = absurd t
 trees_length floor (n ∷ ns) (s ∷ later) t =
-    let h = trees_length floor ns (pending n.cut (stepped s n.steps) later) t.3 in
-    let k = pending_length n.cut (stepped s n.steps) later in
+    let h = trees_length floor ns (pending n.standing (stepped s n.steps) later) t.2 in
+    let k = pending_length n.standing (stepped s n.steps) later in
     omega (arith, h, k)
 
 -- twice the branches and one more node
@@ -139,7 +140,7 @@ pub branches_length : (floor : ℤ) (ns : List Shown) (root : State) → AreTree
     → length ns ≡ branch_items (items_of ns) + branch_items (items_of ns) + 1
 branches_length floor ns root t =
     let h = trees_length floor ns (root ∷ []) t in
-    let k = branches_cuts ns in
+    let k = branches_splits ns in
     omega (arith, h, k)
 
 -- half of the nodes

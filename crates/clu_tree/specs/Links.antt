@@ -8,14 +8,15 @@ use Rattle.clu_state.specs.declared.decision.Decision.TheVariants.{Together, Apa
 use Rattle.clu_reduce.specs.declared.step.Step.{Step}
 use Rattle.clu_node.specs.declared.bound.NodeBound.{NodeBound}
 use Rattle.clu_cert.specs.Valid.{stepped}
-use Rattle.clu_tree.specs.Nodes.{Shown, HasKey, LeafAt, AreTrees, state_from}
+use Rattle.clu_tree.specs.Nodes.{Shown, HasKey, HasLeaf, LeafAt, AreTrees, standing_bound, split_on, state_from}
 use Rattle.clu_tree.specs.Queue.{entry, IsBest}
 use Rattle.clu_tree.specs.declared.node.Fresh.{Fresh}
 use Rattle.clu_tree.specs.declared.node.Node.{Node}
 use Rattle.clu_tree.specs.declared.node.Origin.{Origin}
+use Rattle.clu_tree.specs.declared.node.Standing.TheVariants.{Unsplit}
 
 abbrev pub shown : ℕ → Node → Shown
-shown key n = record { key = key; steps = n.steps; node = n.bound; cut = n.cut }
+shown key n = record { key = key; steps = n.steps; standing = n.standing }
 
 abbrev pub then_next : ℕ → Option Node → (ℕ → List Shown) → List Shown
 then_next key None go = []
@@ -55,14 +56,14 @@ AreClimbed nodes ns root = (key : ℕ) (n : Node) → HasKey key ns → get node
 
 -- ---- the queue
 -- the node at this key is a leaf
-abbrev pub IsUncut : Slab Node → ℕ → Type 0
-IsUncut nodes key = (n : Node) × (get nodes key ≡ Some n) × (n.cut ≡ None)
+abbrev pub IsUnsplit : Slab Node → ℕ → Type 0
+IsUnsplit nodes key = (n : Node) × (get nodes key ≡ Some n) × HasLeaf n.standing
 
 -- the queue has each leaf and nothing but nodes, and its best entry is a leaf's
 pub record AreQueued (nodes : Slab Node) (ns : List Shown) (entries : List (ℤ × Reverse ℕ)) : Type 0 where
   pub leaves : (key : ℕ) (node : NodeBound) → LeafAt key node ns → Contains entries (entry node.bound key)
   pub known : (bound : ℤ) (key : ℕ) → Contains entries (entry bound key)
-      → HasKey key ns × ((n : Node) × (get nodes key ≡ Some n) × (n.bound.bound ≡ bound))
+      → HasKey key ns × ((n : Node) × (get nodes key ≡ Some n) × (standing_bound n.standing ≡ bound))
   pub best : (bound : ℤ) (key : ℕ) → IsBest entries bound key → (node : NodeBound) × LeafAt key node ns × (node.bound ≡ bound)
 
 -- what the fields of a tree keep
@@ -74,7 +75,7 @@ pub record IsWhole (nodes : Slab Node) (first : ℕ) (root : State) (floor : ℤ
 -- ---- a split
 -- a new leaf
 abbrev pub leaf_node : Fresh → ℕ → Option Origin → Node
-leaf_node fresh next origin = record { steps = fresh.steps; bound = fresh.bound; cut = None; next = next; origin = origin }
+leaf_node fresh next origin = record { steps = fresh.steps; standing = Unsplit fresh.bound; next = next; origin = origin }
 
 -- where a new node of a split comes from
 abbrev pub side_of : ℕ → Decision → Option Origin
@@ -88,7 +89,7 @@ pub record Attached (old new : Slab Node) (key : ℕ) (pair : ℕ × ℕ) (toget
   pub differ : keys.0 ≢ keys.1
   pub first : get new keys.0 ≡ Some (leaf_node together keys.1 (side_of key (Together pair.0 pair.1)))
   pub second : (n : Node) → get old key ≡ Some n → get new keys.1 ≡ Some (leaf_node apart n.next (side_of key (Apart pair.0 pair.1)))
-  pub split : (n : Node) → get old key ≡ Some n → get new key ≡ Some (record n { cut = Some pair; next = keys.0 })
+  pub split : (n : Node) → get old key ≡ Some n → get new key ≡ Some (record n { standing = split_on pair n.standing; next = keys.0 })
   pub others : (other : ℕ) → other ≢ key → other ≢ keys.0 → other ≢ keys.1 → get new other ≡ get old other
 
 -- the arena has the same nodes
@@ -100,7 +101,7 @@ pub record SameNodes (old new : Slab Node) : Type 0 where
 pub record Requeued (nodes : Slab Node) (old new : List (ℤ × Reverse ℕ)) (together apart : ℤ) (keys : ℕ × ℕ) : Type 0 where
   pub known : (bound : ℤ) (key : ℕ) → Contains new (entry bound key)
       → (((bound ≡ together) × (key ≡ keys.0)) ⊎ ((bound ≡ apart) × (key ≡ keys.1))) ⊎ Contains old (entry bound key)
-  pub kept : (bound : ℤ) (key : ℕ) → Contains old (entry bound key) → IsUncut nodes key → Contains new (entry bound key)
-  pub first : IsUncut nodes keys.0 → Contains new (entry together keys.0)
-  pub second : IsUncut nodes keys.1 → Contains new (entry apart keys.1)
-  pub best : (bound : ℤ) (key : ℕ) → IsBest new bound key → IsUncut nodes key
+  pub kept : (bound : ℤ) (key : ℕ) → Contains old (entry bound key) → IsUnsplit nodes key → Contains new (entry bound key)
+  pub first : IsUnsplit nodes keys.0 → Contains new (entry together keys.0)
+  pub second : IsUnsplit nodes keys.1 → Contains new (entry apart keys.1)
+  pub best : (bound : ℤ) (key : ℕ) → IsBest new bound key → IsUnsplit nodes key

@@ -1,4 +1,5 @@
-//! Decisions that are told from the last to the first.
+//! Decisions that are told from the last to the first: a node knows the one that it comes from, so the
+//! way from the root is read from its end and turned once, and no node keeps a path of its own.
 
 ghost use Rattle.std.specs.Prelude.{◌≡◌, ◌++◌, map, reverse, OnOk};
 ghost use Rattle.clu_reduce.specs.Reduction.{decision_of};

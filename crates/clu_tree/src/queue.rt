@@ -1,3 +1,6 @@
+//! A binary heap (Williams, 1964) of the leaves' bounds, which gives the next leaf of a best-first search in
+//! logarithmic time. Of equal bounds the least key comes first, so the same search is made each time.
+
 ghost use Rattle.std.specs.Prelude.{◌≡◌, ◌↔◌, ◌+◌, ◌<◌, ◌≤◌, ℕ, ℤ, [], ◌∷◌, length, IfSome, IsSome, OnOk};
 ghost use Rattle.std.specs.List.Sorted.{IsPermutation};
 ghost use Rattle.clu_tree.specs.Queue.{IsBest, entry};

@@ -1,6 +1,10 @@
-ghost use Rattle.std.specs.Prelude.{◌≡◌, ◌⊎◌, ◌+◌, ◌<◌, ◌≤◌, ◌^◌, ◌≤ℤ◌, ◌<ℤ◌, ℕ, [], ◌∷◌, ◌++◌, List, map, length, IfOk, OnOk, OnErr, IfSome, IfNone, Some};
+//! The branch tree of one part of the vertices, grown best first (branch and bound: Land and Doig, 1960).
+//! Its nodes stand in an arena in preorder, so that a proof is one walk along the links; a queue has the
+//! leaves by their bounds. Rows are kept at leaves alone, and are moved into the proof at the end.
+
+ghost use Rattle.std.specs.Prelude.{◌≡◌, ◌⊎◌, ◌+◌, ◌≤◌, ◌≤ℤ◌, ◌<ℤ◌, ℕ, [], ◌∷◌, ◌++◌, List, map, length, IfOk, OnOk, OnErr, IfSome, IfNone};
 ghost use Rattle.std.specs.List.{AllByRecursion};
-ghost use Rattle.slab.specs.Slab.{get};
+ghost use Rattle.slab.specs.Slab.{slab_len};
 ghost use Rattle.clu_state.specs.State.{IsState, IsFree, decided};
 ghost use Rattle.clu_state.specs.declared.decision.Decision.TheVariants.{Together, Apart};
 ghost use Rattle.clu_node.specs.Node.{IsBounded};
@@ -10,16 +14,16 @@ ghost use Rattle.clu_cert.specs.Fits.{ItemFits};
 ghost use Rattle.clu_cert.specs.Valid.{stepped};
 ghost use Rattle.clu_cert.specs.declared.certificate.Item.TheVariants.{Reduce};
 ghost use Rattle.clu_tree.specs.Items.{branch_items, RowsCounted};
-ghost use Rattle.clu_tree.specs.Nodes.{Shown, HasKey, BoundAt, LeafAt, IsOpen, IsFit, state_at, node_item, items_of, new_leaf, split_nodes};
+ghost use Rattle.clu_tree.specs.Nodes.{Shown, HasKey, IsLeaf, LeafAt, IsOpen, IsFit, state_at, node_item, items_of, new_leaf, split_nodes};
+ghost use Rattle.clu_tree.specs.Links.{KeysDiffer, follow};
 
 use crate::grow::{bound_of, grow};
-use crate::node::{Fresh, Node};
+use crate::node::{Fresh, Node, Standing};
 use crate::path::{push_back, push_steps_back};
 use crate::queue::Queue;
 use clu_cert::Item;
 use clu_node::NodeBound;
 use clu_partition::{PairTable, Seq, Start, Vertex};
-use clu_rows::Leaf;
 use clu_state::Decision;
 use slab::Slab;
 use std::alloc::{AllocError, Global};
@@ -60,29 +64,6 @@ impl<'p> Model for Tree<'p> {
         t.floor t.queue.entries };
 }
 
-/// A leaf equal to this one, which has fewer rows than 2^64.
-fn copied(alloc: Global, leaf: &Leaf) -> Result<Leaf, AllocError>
-    ensures leaf { IfOk result (λ copy. copy ≡ leaf.now) }
-    ensures count { length leaf.now.rows < 2 ^ 64 }
-{
-    let _ = leaf.rows.len();
-    leaf.copy(alloc)
-}
-
-/// Adds the node's reductions, and its branch or its leaf.
-fn push_node(alloc: Global, node: &Node, items: &mut Seq<Item>) -> Result<(), AllocError>
-    ensures value { OnOk result (items.new ≡ (items.old ++ map Reduce node.now.steps) ++ node_item node.now.bound node.now.cut ∷ []) }
-    ensures counted { OnOk result (RowsCounted (node_item node.now.bound node.now.cut)) }
-{
-    for step in node.steps.as_slice() {
-        items.push(Item::Reduce(*step))?;
-    }
-    match node.cut {
-        None => items.push(Item::Leaf(copied(alloc, &node.bound.leaf)?)),
-        Some(pair) => items.push(Item::Branch(pair.0, pair.1)),
-    }
-}
-
 impl<'p> Tree<'p> {
     /// A tree of the root alone; the members and the decisions that lead to it are copied.
     pub fn new(
@@ -111,8 +92,7 @@ impl<'p> Tree<'p> {
         let bound = bound_of(&root);
         let first = nodes.insert_reserved(Node {
             steps: root.steps,
-            bound: root.bound,
-            cut: None,
+            standing: Standing::Unsplit(root.bound),
             next: 0,
             origin: None,
         });
@@ -145,8 +125,8 @@ impl<'p> Tree<'p> {
         self.nodes.len() as u64 / 2
     }
 
-    /// Splits the leaf with the key on a pair, and answers the keys of the new leaves, the one with
-    /// the pair together first. After an error the tree is as it was.
+    /// Splits the leaf with the key on a pair, drops its rows, and answers the keys of the new leaves,
+    /// the one with the pair together first. After an error the tree is as it was.
     pub fn split(
         &mut self,
         key: usize,
@@ -162,8 +142,8 @@ impl<'p> Tree<'p> {
         ensures ok { IfOk result (λ keys. self.new ≡ record self.old {
           nodes = split_nodes key (u, v) (new_leaf keys.0 together) (new_leaf keys.1 apart) self.old.nodes;
         }) }
-        ensures bounds { IfOk result (λ keys. (other : ℕ) (node : Bound) → BoundAt other node self.new.nodes
-            → BoundAt other node self.old.nodes
+        ensures bounds { IfOk result (λ keys. (other : ℕ) (node : Bound) → LeafAt other node self.new.nodes
+            → LeafAt other node self.old.nodes
             ⊎ (((other ≡ keys.0) × (node ≡ together.bound)) ⊎ ((other ≡ keys.1) × (node ≡ apart.bound)))) }
         ensures branched { OnOk result (branch_items (items_of self.new.nodes) ≡ branch_items (items_of self.old.nodes) + 1) }
         ensures err { OnErr result (self.new ≡ self.old) }
@@ -188,7 +168,6 @@ impl<'p> Tree<'p> {
             × ((other : ℕ) (b : Bound) → LeafAt other b self.now.nodes
             → (b.bound ≤ℤ node.bound) × (b.bound ≡ node.bound → key ≤ other))) }
         ensures key { IfSome result (λ key. HasKey key self.now.nodes) }
-        ensures bound { IfSome result (λ key. (node : Bound) → LeafAt key node self.now.nodes → BoundAt key node self.now.nodes) }
     {
         let top = self.greatest();
         if top.0 > best { Some(top.1) } else { None }
@@ -202,14 +181,17 @@ impl<'p> Tree<'p> {
         self.greatest().0
     }
 
-    /// What bounds the node with the key.
+    /// What bounds the leaf with the key.
     pub fn bound_at(&self, key: usize) -> &NodeBound
-        requires { HasKey key self.now.nodes }
-        ensures value { BoundAt key result.now self.now.nodes }
-        ensures only { (other : Bound) → BoundAt key other self.now.nodes → other ≡ result.now }
+        requires { IsLeaf key self.now.nodes }
+        ensures value { LeafAt key result.now self.now.nodes }
+        ensures only { (other : Bound) → LeafAt key other self.now.nodes → other ≡ result.now }
         ensures bounded { IsBounded (state_at self.now key) result.now }
     {
-        &self.nodes[key].bound
+        match &self.nodes[key].standing {
+            Standing::Unsplit(bound) => bound,
+            Standing::Split(_) => unreachable!(),
+        }
     }
 
     /// The decisions of the node's state: the ones that lead to the root, and then those on the way
@@ -234,20 +216,39 @@ impl<'p> Tree<'p> {
         Ok(path)
     }
 
-    /// The items of a proof: the nodes in preorder.
-    pub fn preorder(&self, alloc: Global) -> Result<Seq<Item>, AllocError>
-        ensures value { IfOk result (λ items. items ≡ items_of self.now.nodes) }
+    /// The items of a proof: the nodes in preorder. Each leaf is moved into its item.
+    pub fn preorder(self, alloc: Global) -> Result<Seq<Item>, AllocError>
+        ensures value { IfOk result (λ items. items ≡ items_of self.entry.nodes) }
         ensures fits { IfOk result (λ items. AllByRecursion ItemFits items) }
     {
-        let mut items = Seq::new(alloc);
-        let mut at = self.first;
-        let mut left = self.nodes.len();
-        while left > 0 {
-            let node = &self.nodes[at];
-            push_node(alloc, node, &mut items)?;
-            at = node.next;
-            left -= 1;
-        }
-        Ok(items)
+        items_from(alloc, self.nodes, self.first)
     }
+}
+
+/// The items of all nodes along the links. Each node is taken out of the arena, and no key is in it
+/// once the last one is out, whatever that one names as the next.
+fn items_from(alloc: Global, mut nodes: Slab<Node>, first: usize) -> Result<Seq<Item>, AllocError>
+    requires all { length (follow (slab_len nodes) nodes first) ≡ slab_len nodes }
+    requires differ { KeysDiffer (follow (slab_len nodes) nodes first) }
+    ensures value { IfOk result (λ items. items ≡ items_of (follow (slab_len nodes) nodes first)) }
+    ensures counted { IfOk result (λ items. AllByRecursion RowsCounted items) }
+{
+    let mut items = Seq::new(alloc);
+    let mut at = first;
+    while let Some(node) = nodes.try_remove(at) {
+        at = node.next;
+        push_node(node, &mut items)?;
+    }
+    Ok(items)
+}
+
+/// Adds the node's reductions, and its branch or its leaf.
+fn push_node(node: Node, items: &mut Seq<Item>) -> Result<(), AllocError>
+    ensures value { OnOk result (items.new ≡ (items.old ++ map Reduce node.steps) ++ node_item node.standing ∷ []) }
+    ensures counted { OnOk result (RowsCounted (node_item node.standing)) }
+{
+    for step in node.steps.as_slice() {
+        items.push(Item::Reduce(*step))?;
+    }
+    items.push(node.standing.into_item())
 }

@@ -3,7 +3,7 @@
 use crate::fixtures::{Case, Decisions, PATH, Weights, is_met};
 use clu_node::{How, NodeBound, bound_node};
 use clu_partition::Vertex;
-use clu_rows::Residual;
+use clu_rows::Scratch;
 use clu_state::{Rebuilt, Situation};
 use std::alloc::{AllocError, Global};
 use std::test::Fail;
@@ -77,7 +77,7 @@ fn is_node(node: &NodeBound, case: &Bounded) -> bool {
 /// Whether the state is bounded as the case says.
 fn is_bounded<S: Situation>(alloc: Global, state: &S, case: &Bounded) -> Result<bool, AllocError> {
     let _members = state.members();
-    let mut scratch = Residual::new(alloc, 1000)?;
+    let mut scratch = Scratch::new(alloc, 1000)?;
     let node = bound_node(alloc, state, case.best, &mut scratch)?;
     Ok(is_node(&node, case))
 }

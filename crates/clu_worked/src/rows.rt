@@ -2,7 +2,7 @@
 
 use crate::fixtures::{CYCLE, Case, Decisions, LEAVES_APART, STAR, Weights, are, is_met};
 use clu_partition::{Seq, Vertex};
-use clu_rows::{Leaf, LeafFault, Residual, Row, leaf_bound, pack};
+use clu_rows::{Leaf, LeafFault, PackedLeaf, Residual, Rows, Scratch, leaf_bound, pack};
 use clu_state::{Rebuilt, Situation};
 use std::alloc::{AllocError, Global};
 use std::test::Fail;
@@ -157,8 +157,8 @@ fn one_row(alloc: Global, case: &Bounded) -> Result<Leaf, AllocError> {
     let (s, t, y) = case.row;
     let s = list(alloc, s)?;
     let t = list(alloc, t)?;
-    let mut rows = Seq::new(alloc);
-    rows.push(Row { s, t, y })?;
+    let mut rows = Rows::new(alloc);
+    rows.push(s.as_slice(), t.as_slice(), y)?;
     Ok(Leaf {
         den: case.den,
         rows,
@@ -199,25 +199,36 @@ fn each_leaf_has_its_bound_or_its_fault(rt: HostRuntime) -> Result<(), Fail> {
     Ok(())
 }
 
-/// Whether the leaf has these triangles, in this order, over 1.
-fn has_triangles(leaf: &Leaf, triangles: &[Sets]) -> bool {
-    let mut well = leaf.den == 1 && leaf.rows.len() == triangles.len();
-    for (row, (s, t, y)) in leaf.rows.as_slice().iter().zip(triangles) {
-        well = well && are(row.s.as_slice(), *s) && are(row.t.as_slice(), *t) && row.y == *y;
+/// Whether these are the rows, in this order.
+fn has_rows(rows: &Rows, wanted: &[Sets]) -> bool {
+    if rows.len() != wanted.len() {
+        return false;
+    }
+    let mut well = true;
+    for (i, (s, t, y)) in wanted.iter().enumerate() {
+        let row = rows.row(i);
+        well = well && are(row.s, *s) && are(row.t, *t) && row.y == *y;
     }
     well
+}
+
+/// Whether the leaf has these triangles, in this order, over 1.
+fn has_triangles(leaf: &Leaf, triangles: &[Sets]) -> bool {
+    leaf.den == 1 && has_rows(&leaf.rows, triangles)
 }
 
 /// Whether the packing of a state, a copy of it and its bound are as they should be.
 fn is_packed<S: Situation>(alloc: Global, state: &S, case: &Packed) -> Result<bool, AllocError> {
     let _members = state.members();
-    let mut scratch = Residual::new(alloc, 1000)?;
-    let leaf = pack(alloc, state)?;
+    let mut prices = Residual::new(alloc, 1000)?;
+    let mut scratch = Scratch::new(alloc, 1000)?;
+    let PackedLeaf { leaf, bound } = pack(alloc, state, &mut scratch)?;
     let copy = leaf.copy(alloc)?;
     Ok(
         has_triangles(&leaf, case.triangles)
             && has_triangles(&copy, case.triangles)
-            && leaf_bound(state, &leaf, &mut scratch) == Ok(case.bound),
+            && bound == case.bound
+            && leaf_bound(state, &leaf, &mut prices) == Ok(case.bound),
     )
 }
 
@@ -244,5 +255,41 @@ fn each_packing_has_its_triangles(rt: HostRuntime) -> Result<(), Fail> {
     for case in &PACKED {
         assert!(rt; is_met(&rt, rt.alloc(), case)?, "{}", case.name);
     }
+    Ok(())
+}
+
+/// Rows of several lengths.
+const STORED: [Sets; 3] = [
+    (&[0], &[1, 2], 3),
+    (&[4, 1, 0], &[2], 1 << 100),
+    (&[3, 2], &[1, 0, 4], 7),
+];
+
+/// Puts a row behind the others.
+fn store(alloc: Global, rows: &mut Rows, sets: &Sets) -> Result<(), AllocError> {
+    let (s, t, y) = sets;
+    let s = list(alloc, *s)?;
+    let t = list(alloc, *t)?;
+    rows.push(s.as_slice(), t.as_slice(), *y)
+}
+
+/// Whether rows that are put in come out as they were, of a copy too, also where others were cleared.
+fn are_stored(alloc: Global, wanted: &[Sets]) -> Result<bool, AllocError> {
+    let mut rows = Rows::new(alloc);
+    for sets in wanted {
+        store(alloc, &mut rows, sets)?;
+    }
+    let copy = rows.copy(alloc)?;
+    rows.clear();
+    let empty = rows.len() == 0;
+    for sets in wanted {
+        store(alloc, &mut rows, sets)?;
+    }
+    Ok(empty && has_rows(&copy, wanted) && has_rows(&rows, wanted))
+}
+
+#[test]
+fn rows_of_any_lengths_come_out_as_they_went_in(rt: HostRuntime) -> Result<(), Fail> {
+    assert!(rt; are_stored(rt.alloc(), &STORED)?);
     Ok(())
 }

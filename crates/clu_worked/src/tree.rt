@@ -11,7 +11,7 @@ use crate::fixtures::{Decisions, PATH, Weights, decide, decision_of, listed, wei
 use clu_cert::Item;
 use clu_node::{How, bound_node};
 use clu_partition::{PairTable, Seq, Start, Vertex, all_vertices};
-use clu_rows::Residual;
+use clu_rows::Scratch;
 use clu_state::{Decision, Rebuilt, Situation};
 use clu_tree::{Fresh, Tree};
 use std::alloc::{AllocError, Global};
@@ -115,7 +115,7 @@ fn fresh<S: Situation>(alloc: Global, state: &S) -> Result<Fresh, AllocError>
     ensures { IfOk result (λ fresh. IsFit (S.state state.now) fresh) }
 {
     let _members = state.members();
-    let mut scratch = Residual::new(alloc, 1000)?;
+    let mut scratch = Scratch::new(alloc, 1000)?;
     let bound = bound_node(alloc, state, 0, &mut scratch)?;
     Ok(Fresh {
         steps: Seq::new(alloc),
@@ -259,18 +259,13 @@ fn has_best(alloc: Global, tree: &Tree, case: &Case) -> Result<bool, AllocError>
     Ok(tree.bound_at(key).bound == case.upper && is_way(alloc, tree, key, case.way)?)
 }
 
-/// Whether the tree tells what the case says.
-fn is_told(alloc: Global, tree: &Tree, case: &Case) -> Result<bool, AllocError> {
+/// Whether the tree tells what the case says, and gives out the items of the case.
+fn is_told(alloc: Global, tree: Tree, case: &Case) -> Result<bool, AllocError> {
+    let rooted = is_way(alloc, &tree, tree.root(), case.given)?;
+    let best = has_best(alloc, &tree, case)?;
+    let counted = tree.branchings() == case.splits && tree.upper() == case.upper;
     let items = tree.preorder(alloc)?;
-    let rooted = is_way(alloc, tree, tree.root(), case.given)?;
-    let best = has_best(alloc, tree, case)?;
-    Ok(
-        rooted
-            && best
-            && tree.branchings() == case.splits
-            && tree.upper() == case.upper
-            && are_items(items.as_slice(), case.items),
-    )
+    Ok(rooted && best && counted && are_items(items.as_slice(), case.items))
 }
 
 /// Whether the tree of a case, grown as it says, tells what it says.
@@ -278,7 +273,7 @@ fn is_met(rt: &impl Abort, alloc: Global, case: &Case) -> Result<bool, AllocErro
     let pairs = weighed(rt, alloc, case.n, case.weights)?;
     let start = Start::none(alloc, pairs.n())?;
     let tree = grown(rt, alloc, &pairs, &start, case)?;
-    is_told(alloc, &tree, case)
+    is_told(alloc, tree, case)
 }
 
 #[test]

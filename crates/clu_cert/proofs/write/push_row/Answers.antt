@@ -11,7 +11,7 @@ returns c =
     c.extend_from_slice-2.new.self.items c.push_vertices-2.new.out.items c.push.new.self.items c.args.row.now
     c.in_ok-extend_from_slice.ensures.items
     (c.in_ok-push_u128.ensures.ok ∙ ap (λ (r : TwoSet). c.extend_from_slice.new.self.items ++ decimal r.y) v)
-    (search (c.in_ok-push_vertices.ensures, c.as_slice.ensures, ap (λ (r : TwoSet). r.s) v))
+    (search (c.in_ok-push_vertices.ensures, ap (λ (r : TwoSet). r.s) v))
     c.in_ok-extend_from_slice-2.ensures.items
-    (search (c.in_ok-push_vertices-2.ensures, c.as_slice-2.ensures, ap (λ (r : TwoSet). r.t) v))
+    (search (c.in_ok-push_vertices-2.ensures, ap (λ (r : TwoSet). r.t) v))
     c.in_ok-push.ensures.items

@@ -8,8 +8,7 @@ use Rattle.clu_node.proofs.bound.bound_node.Goals as goal
 pub returns-clause-settled : goal.returns-clause-settled
 returns-clause-settled g c = λ e.
     let s = g.S.Situation.state c.args.state.now in
-    let leaf = c.in_ok-leaf.leaf in
-    let shown : to_z w128 (of_z w128 c.bound_of-bound.result) ≡ c.bound_of-bound.result = omega (arith, ints) in
-    shown ∙ c.bound_of-bound.ensures.value ∙
-    settled s leaf.den leaf.rows (c.heaviest-pair.ensures.none e) (subst (HasPair s) e c.heaviest-pair.ensures.pair)
-    c.in_ok-leaf.ensures.den c.in_ok-leaf.ensures.packing
+    let packed = c.in_ok-leaf.field-0 in
+    let shown : to_z w128 (of_z w128 packed.bound) ≡ packed.bound = omega (arith, ints) in
+    shown ∙ c.in_ok-leaf.ensures.bound ∙
+    settled s packed.leaf.rows (c.in_ok-pair.ensures.none e) (subst (HasPair s) e c.in_ok-pair.ensures.pair) c.in_ok-leaf.ensures.packing

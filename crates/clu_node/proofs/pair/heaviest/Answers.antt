@@ -1,47 +1,55 @@
-use Rattle.std.proofs.Common.{subst, sym}
-use Rattle.clu_state.proofs.FreePairs.{all_free, IsFreePair}
-use Rattle.clu_node.proofs.FreeLists.{none_free, free_rising}
-use Rattle.clu_node.proofs.Heaviest.{heaviest_from, turn, at_end, heaviest_has, is_heaviest, at_first, at_rest, at_turn, none_listed}
+use Rattle.std.proofs.Common.{◌≢◌, ◌+◌, None, Contains, All, subst, sym, ◌∙◌}
+use Rattle.std.proofs.lemmas.Grind.{get_or_default_zero}
+use Rattle.clu_partition.proofs.ListLaws.{tail_is}
+use Rattle.clu_state.specs.State.{leader, free_of}
+use Rattle.clu_state.proofs.FreePairs.{leads_at, later_all}
+use Rattle.clu_node.specs.Heavier.{heaviest_of}
+use Rattle.clu_node.proofs.Heaviest.{next_group, all_visited, has_pair, is_heaviest, none_found}
 use Rattle.clu_node.proofs.pair.heaviest.Goals as goal
 
-pub returns-in_default-clause-pair : goal.returns-in_default-clause-pair
-returns-in_default-clause-pair g c =
+pub visit_with-requires-clause-first : goal.visit_with-requires-clause-first
+visit_with-requires-clause-first g c =
     let s = g.S.Situation.state c.args.state.now in
-    none_free s c.members-members.ensures.valid (none_listed c.args.pairs.now _ c.requires c.in_default.ensures.cases)
+    let e = c.as_slice-groups.ensures ∙ c.in_ok-leaders.ensures.value in
+    subst (Contains s.members) (sym (c.index-groups-i.is ∙ get_or_default_zero c.as_slice-groups.result.now c.loop-i.i c.index-groups-i.result c.loop-i-test.true))
+    (leads_at s c.as_slice-groups.result.now c.loop-i.i c.in_ok-leaders.ensures.valid e c.loop-i-test.true).member
 
-pub size-most-requires : goal.size-most-requires
-size-most-requires g c =
+pub visit_with-requires-clause-members : goal.visit_with-requires-clause-members
+visit_with-requires-clause-members g c =
     let s = g.S.Situation.state c.args.state.now in
-    at_first (IsFreePair s) c.args.pairs.now _ c.in-Some.best.now c.in-Some.rest.now c.requires c.in-Some.ensures.cases.0 (all_free s c.members-members.ensures.valid)
+    let e = c.as_slice-groups.ensures ∙ c.in_ok-leaders.ensures.value in
+    subst (All (Contains s.members)) (sym (tail_is (c.loop-i.i + 1) c.as_slice-groups.result.now))
+    (λ k d n. (later_all s c.as_slice-groups.result.now c.loop-i.i c.index-groups-i.result c.in_ok-leaders.ensures.valid e c.loop-i-test.true c.index-groups-i.is k d n).member)
 
-pub size-size-requires : goal.size-size-requires
-size-size-requires g c =
+pub visit_with-requires-clause-differ : goal.visit_with-requires-clause-differ
+visit_with-requires-clause-differ g c =
     let s = g.S.Situation.state c.args.state.now in
-    at_turn (IsFreePair s) c.in-Some.rest.now c.loop-pair.pair-index c.pair-item.result c.loop-pair-test.true c.pair-item.is
-    (at_rest (IsFreePair s) c.args.pairs.now _ c.in-Some.best.now c.in-Some.rest.now c.requires c.in-Some.ensures.cases.0 (all_free s c.members-members.ensures.valid))
+    let e = c.as_slice-groups.ensures ∙ c.in_ok-leaders.ensures.value in
+    subst (All (λ b. leader s c.index-groups-i.result ≢ leader s b)) (sym (tail_is (c.loop-i.i + 1) c.as_slice-groups.result.now))
+    (λ k d n. (later_all s c.as_slice-groups.result.now c.loop-i.i c.index-groups-i.result c.in_ok-leaders.ensures.valid e c.loop-i-test.true c.index-groups-i.is k d n).differ)
 
-pub loop-pair-preserved : goal.loop-pair-preserved
-loop-pair-preserved g c =
+pub loop-i-preserved : goal.loop-i-preserved
+loop-i-preserved g c =
     let s = g.S.Situation.state c.args.state.now in
-    turn s c.loop-pair.best.now c.pair-item.result c.heavier-best.result.now c.loop-pair.most c.size-size.result c.max-most.result
-    c.loop-pair.pair-index c.in-Some.rest.now (heaviest_from s c.in-Some.best.now c.in-Some.rest.now)
-    c.loop-pair-test.true c.pair-item.is c.size-size.ensures c.heavier-best.ensures c.max-most.ensures c.loop-pair.invariant
+    record {
+      sized = c.visit_with.ensures.sized;
+      found = next_group s c.loop-i.candidate.pair c.visit_with.new.self.pair (heaviest_of s None (free_of s c.as_slice-groups.result.now)) c.index-groups-i.result c.loop-i.i c.as_slice-groups.result.now c.loop-i-test.true c.index-groups-i.is c.visit_with.ensures.pair c.loop-i.invariant.found;
+    }
 
 pub returns-clause-pair : goal.returns-clause-pair
 returns-clause-pair g c =
     let s = g.S.Situation.state c.args.state.now in
-    let all = all_free s c.members-members.ensures.valid in
-    subst (IsFreePair s)
-    (sym (at_end s c.loop-pair.best.now c.loop-pair.most c.loop-pair.pair-index c.in-Some.rest.now
-    (heaviest_from s c.in-Some.best.now c.in-Some.rest.now) c.loop-pair-test.false c.loop-pair.invariant))
-    (heaviest_has s (IsFreePair s) c.in-Some.best.now c.in-Some.rest.now
-    (at_first (IsFreePair s) c.args.pairs.now _ c.in-Some.best.now c.in-Some.rest.now c.requires c.in-Some.ensures.cases.0 all)
-    (at_rest (IsFreePair s) c.args.pairs.now _ c.in-Some.best.now c.in-Some.rest.now c.requires c.in-Some.ensures.cases.0 all))
+    has_pair s c.loop-i.candidate.pair c.in_ok-leaders.ensures.valid
+    (all_visited s c.loop-i.candidate.pair c.loop-i.i c.as_slice-groups.result.now (c.as_slice-groups.ensures ∙ c.in_ok-leaders.ensures.value) c.loop-i-test.false c.loop-i.invariant.found)
 
 pub returns-clause-heaviest : goal.returns-clause-heaviest
 returns-clause-heaviest g c =
     let s = g.S.Situation.state c.args.state.now in
-    is_heaviest s c.args.pairs.now c.in-Some.best.now c.in-Some.rest.now c.loop-pair.best.now c.requires c.in-Some.ensures.cases.0
-    (free_rising s c.members-members.ensures.valid)
-    (at_end s c.loop-pair.best.now c.loop-pair.most c.loop-pair.pair-index c.in-Some.rest.now
-    (heaviest_from s c.in-Some.best.now c.in-Some.rest.now) c.loop-pair-test.false c.loop-pair.invariant)
+    is_heaviest s c.loop-i.candidate.pair c.in_ok-leaders.ensures.valid
+    (all_visited s c.loop-i.candidate.pair c.loop-i.i c.as_slice-groups.result.now (c.as_slice-groups.ensures ∙ c.in_ok-leaders.ensures.value) c.loop-i-test.false c.loop-i.invariant.found)
+
+pub returns-clause-none : goal.returns-clause-none
+returns-clause-none g c =
+    let s = g.S.Situation.state c.args.state.now in
+    none_found s c.loop-i.candidate.pair
+    (all_visited s c.loop-i.candidate.pair c.loop-i.i c.as_slice-groups.result.now (c.as_slice-groups.ensures ∙ c.in_ok-leaders.ensures.value) c.loop-i-test.false c.loop-i.invariant.found)

@@ -8,7 +8,7 @@ pub returns-clause-ok : goal.returns-clause-ok
 returns-clause-ok c = attached c.args.nodes.now c.reserve.new.self c.insert_reserved-first.new.self c.insert_reserved-second.new.self
     (with_value c.insert_reserved-second.new.self c.insert_reserved-first.result (record c.index_mut.result.now { next = c.insert_reserved-second.result }))
     c.args.key c.insert_reserved-first.result c.insert_reserved-second.result c.index.result.now.next
-    (c.args.u, c.args.v) c.args.together c.args.apart c.index.result.now c.index_mut-node.result.now c.index_mut.result.now
+    (c.args.u, c.args.v) c.args.together c.args.apart c.index.result.now c.index_mut-node.result.now c.index_mut.result.now c.split_on.result
     (record {
       slots = ap (λ (s : Slab Node). s.slots) c.reserve.ensures.rest_kept;
       had = c.index.ensures;
@@ -22,3 +22,4 @@ returns-clause-ok c = attached c.args.nodes.now c.reserve.new.self c.insert_rese
       linked = refl;
       has = c.index_mut-node.ensures.value;
     })
+    c.split_on.ensures

@@ -23,9 +23,9 @@ pub returns-clause-ok : goal.returns-clause-ok
 returns-clause-ok c = λ k more.
     let r = c.args.self.now in
     let l = fields_in c.args.line.now in
-    let f : Leaf = record { den = r.leaf.den; rows = c.push.new.self } in (
-      λ h. row_to c.args.parts c.args.later c.args.left r.cert l r.part r.leaf f c.in-Ok.row c.in-Ok.ensures refl c.in_ok-push.ensures.ok k more
+    let f : Leaf = record { den = r.leaf.den; rows = c.push_to.new.rows } in (
+      λ h. row_to c.args.parts c.args.later c.args.left r.cert l r.part r.leaf f c.in-Ok.row c.in-Ok.ensures refl c.in_ok-push_to.ensures k more
           (subst (λ s. AtStage s r.cert r.part r.leaf k (l ∷ more)) c.requires h),
       λ h. subst (λ s. AtStage s r.cert r.part r.leaf k (l ∷ more)) (sym c.requires)
-          (row_from c.args.parts c.args.later c.args.left r.cert l r.part r.leaf f c.in-Ok.row c.in-Ok.ensures refl c.in_ok-push.ensures.ok k more h),
+          (row_from c.args.parts c.args.later c.args.left r.cert l r.part r.leaf f c.in-Ok.row c.in-Ok.ensures refl c.in_ok-push_to.ensures k more h),
     )

@@ -1,5 +1,5 @@
-use Rattle.std.proofs.Common.{arith}
-use Rattle.clu_rows.proofs.Thirds.{all_near_stay}
+use Rattle.std.proofs.Common.{arith, ◌∙◌}
+use Rattle.clu_rows.proofs.NearLaws.{all_near_stay}
 use Rattle.clu_rows.proofs.Walk.{more_first}
 use Rattle.clu_rows.proofs.packing.Packing.visit_all.Goals as goal
 
@@ -7,10 +7,12 @@ pub loop-i-preserved : goal.loop-i-preserved
 loop-i-preserved g c =
     let i = c.loop-i.invariant in
     let e = c.in_ok-visit_first.ensures in
+    let step = e.step in
     record {
-      packed = e.packed;
-      near = all_near_stay c.loop-i.self.left c.visit_first.new.self.left _ c.args.near.now (omega (arith, i.packed.size)) e.nearer i.near;
-      settled = more_first (g.S.Situation.state c.args.state.now) c.args.groups.now c.loop-i.self.left c.visit_first.new.self.left c.loop-i.self.rows c.visit_first.new.self.rows c.loop-i.i i.packed e.packed e.nearer (omega arith) i.settled e.settled;
+      room = c.visit_first.ensures.room ∙ i.room;
+      packed = step.packed;
+      near = all_near_stay c.loop-i.self.left c.visit_first.new.self.left _ c.args.near.now (let size = i.packed.size in size) step.nearer i.near;
+      settled = more_first (g.S.Situation.state c.args.state.now) c.args.groups.now c.loop-i.self.left c.visit_first.new.self.left c.loop-i.self.rows c.visit_first.new.self.rows c.loop-i.i i.packed step.packed step.nearer (omega arith) i.settled e.settled;
     }
 
 pub returns-clause-settled : goal.returns-clause-settled

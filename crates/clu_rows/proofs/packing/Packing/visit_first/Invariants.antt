@@ -1,9 +1,10 @@
-use Rattle.std.proofs.Common.{◌<◌, ℕ, length}
+use Rattle.std.proofs.Common.{◌≡◌, ◌<◌, ℕ, length}
 use Rattle.clu_rows.specs.Table.{Packed, Nearer, Settled, AreAllNear}
 use Rattle.clu_rows.proofs.packing.Packing.visit_first.Given as goal
 
 abbrev pub invariant-loop-j : goal.invariant-loop-j
 invariant-loop-j g l = record {
+  room : l.self.left.n ≡ l.initial.self.left.n;
   packed : Packed (g.S.Situation.state l.state) l.groups l.self.left l.self.rows;
   nearer : Nearer l.initial.self.left l.self.left;
   near : AreAllNear l.self.left (length l.groups) l.near;

@@ -4,7 +4,7 @@ use Rattle.clu_search.proofs.Searching.{leaf_key, no_pair, open_leaf, settled_mo
 use Rattle.clu_search.proofs.search.Search.branch.Goals as goal
 
 pub bound_at-requires : goal.bound_at-requires
-bound_at-requires c = leaf_key c.args.key c.requires.above.node c.args.self.now.tree.nodes c.requires.above.leaf
+bound_at-requires c = record { node = c.requires.above.node; leaf = c.requires.above.leaf }
 
 pub unreachable-requires : goal.unreachable-requires
 unreachable-requires c =

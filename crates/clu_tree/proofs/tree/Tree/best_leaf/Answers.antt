@@ -1,14 +1,10 @@
 use Rattle.std.proofs.Common.{◌≡◌, ◌≤ℤ◌, ◌<ℤ◌, ◌≤◌, sym, subst, arith}
 use Rattle.std.proofs.lemmas.Int.{ints}
 use Rattle.clu_tree.proofs.SplitLaws.{leaf_key}
-use Rattle.clu_tree.proofs.RootLaws.{leaf_bound}
 use Rattle.clu_tree.proofs.tree.Tree.best_leaf.Goals as goal
 
 pub returns-then-top-best-clause-key : goal.returns-then-top-best-clause-key
 returns-then-top-best-clause-key c = let l = c.greatest-top.ensures.leaf in leaf_key _ l.0 _ l.1
-
-pub returns-then-top-best-clause-bound : goal.returns-then-top-best-clause-bound
-returns-then-top-best-clause-bound c = λ node l. leaf_bound _ node _ l
 
 pub returns-then-top-best-clause-some : goal.returns-then-top-best-clause-some
 returns-then-top-best-clause-some c =

@@ -3,7 +3,7 @@ use Rattle.clu_state.specs.State.{IsFree, decided}
 use Rattle.clu_state.specs.declared.decision.Decision.TheVariants.{Together, Apart}
 use Rattle.clu_tree.specs.Nodes.{Tree, state_at, IsOpen, IsFit}
 use Rattle.slab.specs.Slab.{slab_len}
-use Rattle.clu_tree.proofs.Arena.{leaf_uncut}
+use Rattle.clu_tree.proofs.Arena.{leaf_unsplit}
 use Rattle.clu_tree.proofs.Queued.{there_is}
 use Rattle.clu_tree.proofs.Telling.{split_whole, split_value, same_value, bounds_were, one_branch}
 use Rattle.clu_tree.proofs.tree.Tree.split.Goals as goal
@@ -11,7 +11,7 @@ use Rattle.clu_tree.proofs.tree.Tree.split.Goals as goal
 pub grow-requires-clause-key : goal.grow-requires-clause-key
 grow-requires-clause-key c =
     let o = subst (λ (t : Tree). IsOpen t c.args.key) (sym c.self.view_is) c.requires.open in
-    let w = leaf_uncut (slab_len c.self.inside.nodes) c.self.inside.nodes c.self.inside.first c.args.key o.node o.leaf in
+    let w = leaf_unsplit (slab_len c.self.inside.nodes) c.self.inside.nodes c.self.inside.first c.args.key o.node o.leaf in
     there_is _ w.0 w.1
 
 pub grow-requires-clause-known : goal.grow-requires-clause-known
