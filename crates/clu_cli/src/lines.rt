@@ -1,4 +1,5 @@
-//! Lines of words and numbers, of which reports and what `err` is told are made.
+//! Lines of words and numbers, of which reports and what `err` is told are made. Each line is one call, so a report is
+//! the list of its lines.
 
 ghost use Rattle.std.specs.Prelude.{◌≡◌, ◌++◌, codes, OnOk};
 ghost use Rattle.std.specs.Fmt.{decimal, signed_decimal};

@@ -1,4 +1,5 @@
-//! Why a run has no report: the exit status and the line on `err` of each cause.
+//! Why a run has no report: the exit status and the line on `err` of each cause. One enum has them all, so that no run
+//! stops without a status.
 
 ghost use Rattle.std.specs.Prelude.{◌≡◌, ◌++◌, IfOk, OnOk};
 ghost use Rattle.clu_cli.specs.declared.stop.Stop.TheVariants.{Memory};

@@ -1,4 +1,5 @@
-//! The words of a command: what is to be done, the names of files, and the options behind them.
+//! The words of a command: what is to be done, the names of files, and the options behind them. No name begins with
+//! `-`, so an option of tomorrow is no file of today.
 
 ghost use Rattle.std.specs.Prelude.{◌≡◌, ◌↔◌, ℕ, [], ◌∷◌, List, Option, IsTrue, MatchOption, codes, map, string_bytes};
 ghost use Rattle.std.specs.Option.{option_map};

@@ -1,3 +1,6 @@
+//! What is searched makes the certificate, to the byte: a path after one branching, a star without any, and a graph
+//! without vertices.
+
 ghost use Rattle.std.specs.Prelude.{IfOk};
 ghost use Rattle.clu_cert.specs.Fits.{Fits};
 

@@ -1,3 +1,6 @@
+//! Whole runs over a folder and sinks in memory: each status with its cause, what is printed and stored byte for byte,
+//! which files were loaded, and what faults leave.
+
 use super::*;
 use clu_outside::{MemoryFolder, MemorySink};
 use std::process::Abort;
