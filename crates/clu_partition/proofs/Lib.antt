@@ -8,6 +8,7 @@ pub mod BoolLaws
 pub mod ValueSizes
 pub mod TakeOut
 pub mod Regroup
+pub mod GridLaws
 pub mod TableLaws
 pub mod PairLaws
 pub mod JoinLaws

@@ -1,8 +1,9 @@
 -- When two numbers are two others, in either order, and what adding to a pair's weight does.
-use Rattle.std.proofs.Common.{◌≡◌, ◌≢◌, ◌⊎◌, inl, inr, ⊎_elim, ℕ, ◌*◌, ◌<◌, ℤ, pos, ◌+ℤ◌, length, min, max, Bool, true, false, ◌==◌, ◌&&◌, ◌||◌, sym, ap, ◌∙◌, subst, arith}
+use Rattle.std.proofs.Common.{◌≡◌, ◌≢◌, ◌⊎◌, inl, inr, ⊎_elim, ℕ, ◌<◌, ℤ, pos, ◌+ℤ◌, min, max, Bool, true, false, ◌==◌, ◌&&◌, ◌||◌, sym, ap, ◌∙◌, subst, arith}
 use Rattle.std.proofs.lemmas.Int.{ints}
 use Rattle.std.proofs.lemmas.Bool.{eq-eqb, ne_eqb, cases_eq, and_from, or_left, or_right, or_from, cases_order}
 use Rattle.clu_partition.specs.Sums.{only_if}
+use Rattle.clu_partition.specs.Grids.{IsGrid}
 use Rattle.clu_partition.specs.Pairs.{Pairs, are_pair, weight_of, with_weight}
 use Rattle.clu_partition.proofs.TableLaws.{set_same, set_other, weight_sym}
 
@@ -55,7 +56,7 @@ pair_split false q true t k d = omega (arith, ints)
 pair_split false q false t k d = omega (arith, ints)
 
 -- ---- one weight k more at a and b
-pub added : (old new : Pairs) (a b x z : ℕ) (k w : ℤ) → length old.weights ≡ old.n * old.n → a < old.n → b < old.n → x < old.n → z < old.n → x ≢ z → w ≡ weight_of old a b +ℤ k → new ≡ with_weight old a b w →
+pub added : (old new : Pairs) (a b x z : ℕ) (k w : ℤ) → IsGrid old → a < old.n → b < old.n → x < old.n → z < old.n → x ≢ z → w ≡ weight_of old a b +ℤ k → new ≡ with_weight old a b w →
     weight_of new x z ≡ weight_of old x z +ℤ only_if (are_pair a b x z) k
 added old new a b x z k w p la lb lx lz d e f = subst (λ (t : Pairs). weight_of t x z ≡ weight_of old x z +ℤ only_if (are_pair a b x z) k) (sym f) (⊎_elim
     (λ h. ⊎_elim (λ q. straight q.0 q.1) (λ q. turned q.0 q.1) h.1 ∙ ap (λ c. weight_of old x z +ℤ only_if c k) (sym h.0))

@@ -1,31 +1,26 @@
 -- Chosen before and after a write, and the loop that merges two places.
-use Rattle.std.proofs.Common.{◌≡◌, ◌≢◌, ℕ, ◌+◌, ◌≤◌, ◌<◌, ⊎_elim, min, max, length, get_or, Bool, true, false, ◌||◌, refl, sym, ap, ◌∙◌, subst, arith, if◌then◌else◌, get_or-set_same, get_or-set_other}
-use Rattle.std.proofs.Math.ListN.{length-set}
+use Rattle.std.proofs.Common.{◌≡◌, ◌≢◌, ℕ, ◌+◌, ◌≤◌, ◌<◌, ⊎_elim, min, max, Bool, true, false, ◌||◌, refl, sym, ap, ◌∙◌, subst, arith, if◌then◌else◌}
 use Rattle.std.proofs.lemmas.Bool.{cases_eq, or_right}
-use Rattle.clu_partition.specs.Pairs.{place}
-use Rattle.clu_partition.proofs.TableLaws.{place_sym, place_below, place_once}
-use Rattle.clu_partition.specs.PairSets.{Chosen, has, with_pair, AreCells}
+use Rattle.clu_partition.specs.Grids.{IsGrid}
+use Rattle.clu_partition.specs.PairSets.{Chosen, has, with_pair}
+use Rattle.clu_partition.proofs.GridLaws.{value_sym, value_here, value_other, grid_set}
 use Rattle.clu_partition.proofs.BoolLaws.{or_false}
 use Rattle.clu_partition.proofs.PairLaws.{pair_without, pair_other}
 
 pub has_turn : (m : Chosen) (u v : ℕ) → has m u v ≡ has m v u
-has_turn m u v = ap (λ k. get_or m.cells k false) (place_sym m.n u v)
+has_turn m u v = value_sym m false u v
 
-pub put_here : (m : Chosen) (u v : ℕ) → AreCells m → u < m.n → v < m.n → has (with_pair m u v) u v ≡ true
-put_here m u v a p q =
-    let i : place m.n u v < length m.cells = let k = place_below m.n u v p q in let l = a.places in omega (arith, k, l) in
-    rw get_or-set_same refl
+pub put_here : (m : Chosen) (u v : ℕ) → IsGrid m → u < m.n → v < m.n → has (with_pair m u v) u v ≡ true
+put_here m u v is p q = value_here m false true u v is p q
 
 pub put_other : (m : Chosen) (u v x y : ℕ) → u < m.n → v < m.n → x < m.n → y < m.n → ((min u v ≡ min x y) × (max u v ≡ max x y) → ⊥) →
     has (with_pair m u v) x y ≡ has m x y
-put_other m u v x y p q r s n =
-    let far : place m.n x y ≢ place m.n u v = λ e. n (place_once m.n u v x y q p r s (sym e)) in
-    rw get_or-set_other refl
+put_other m u v x y p q r s n = value_other m false true u v x y p q r s n
 
 -- ---- the loop over the vertices
 -- those below j are done
 pub record MergedBelow (old now : Chosen) (low high j : ℕ) : Type 0 where
-  pub cells : AreCells now
+  pub grid : IsGrid now
   pub size : now.n ≡ old.n
   pub done : (k : ℕ) → k < j → k < old.n → k ≢ low → has now low k ≡ (has old low k || has old high k)
   pub left : (k : ℕ) → j ≤ k → k < old.n → k ≢ low → has now low k ≡ has old low k
@@ -38,11 +33,11 @@ copied_size : (m : Chosen) (b : Bool) (low j : ℕ) → (copied m b low j).n ≡
 copied_size m true low j = refl
 copied_size m false low j = refl
 
-copied_cells : (m : Chosen) (b : Bool) (low j : ℕ) → AreCells m → AreCells (copied m b low j)
-copied_cells m true low j a = record { small = a.small; places = length-set m.cells (place m.n low j) true ∙ a.places }
-copied_cells m false low j a = a
+copied_grid : (m : Chosen) (b : Bool) (low j : ℕ) → IsGrid m → IsGrid (copied m b low j)
+copied_grid m true low j a = grid_set m low j true a
+copied_grid m false low j a = a
 
-copied_here : (m : Chosen) (b : Bool) (low j : ℕ) → AreCells m → low < m.n → j < m.n → has (copied m b low j) low j ≡ (has m low j || b)
+copied_here : (m : Chosen) (b : Bool) (low j : ℕ) → IsGrid m → low < m.n → j < m.n → has (copied m b low j) low j ≡ (has m low j || b)
 copied_here m true low j a p q = put_here m low j a p q ∙ sym (or_right (has m low j) true refl)
 copied_here m false low j a p q = sym (or_false (has m low j))
 
@@ -54,7 +49,7 @@ copied_other m false low j x y p q r s n = refl
 pub merged_next : (old now new : Chosen) (low high j : ℕ) → low < old.n → high < old.n → j < old.n → low ≢ high →
     new ≡ (if has now high j then with_pair now low j else now) → MergedBelow old now low high j → MergedBelow old new low high (j + 1)
 merged_next old now new low high j p q l n e m = subst (λ x. MergedBelow old x low high (j + 1)) (sym e) (record {
-  cells = copied_cells now (has now high j) low j m.cells;
+  grid = copied_grid now (has now high j) low j m.grid;
   size = copied_size now (has now high j) low j ∙ m.size;
   done = λ k i b d. ⊎_elim
       (λ g. subst (λ x. has (copied now (has now high j) low j) low x ≡ (has old low x || has old high x)) (sym g) (here (λ h. d (g ∙ h))))
@@ -75,6 +70,6 @@ merged_next old now new low high j p q l n e m = subst (λ x. MergedBelow old x 
 
     here : j ≢ low → has (copied now (has now high j) low j) low j ≡ (has old low j || has old high j)
     here d =
-        copied_here now (has now high j) low j m.cells lo jo ∙
+        copied_here now (has now high j) low j m.grid lo jo ∙
         ap (λ x. x || has now high j) (m.left j (omega arith) l d) ∙
         ap (λ x. has old low j || x) (m.others high j q l (λ h. n (sym h)) d)

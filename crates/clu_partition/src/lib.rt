@@ -8,6 +8,7 @@
 //! `Names.antt`.
 #![tactic(auto)]
 
+mod grid;
 mod names;
 mod pair_set;
 mod partition;
@@ -19,6 +20,7 @@ mod table;
 mod ties;
 mod vertex;
 
+pub use grid::Place;
 pub use names::{Name, Names};
 pub use pair_set::PairSet;
 pub use partition::Partition;
@@ -26,6 +28,6 @@ pub use residual::Residual;
 pub use seq::Seq;
 pub use start::Start;
 pub use sums::pair_sum;
-pub use table::{PairTable, place};
+pub use table::PairTable;
 pub use ties::TieError;
 pub use vertex::{Vertex, all_vertices, is_member};

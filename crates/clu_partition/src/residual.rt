@@ -1,27 +1,29 @@
 //! Working space for bounds and separation: a signed number of any size for each pair, which is not limited as a weight is,
 //! so that what a proof spends may pass a weight.
-ghost use Rattle.std.specs.Prelude.{◌≡◌, ◌≢◌, ◌<◌, ◌≤◌, ◌*◌, IfOk, ℕ, pos, length, replicate};
-ghost use Rattle.clu_partition.specs.Pairs.{Pairs, weight_of, with_weight, place as place_of};
+ghost use Rattle.std.specs.Prelude.{◌≡◌, ◌<◌, ◌≤◌, IfOk, ℕ, pos};
+ghost use Rattle.clu_partition.specs.Grids.{IsGrid};
+ghost use Rattle.clu_partition.specs.Pairs.{weight_of, with_weight};
 
+use crate::Place;
+use crate::grid::Grid;
 use std::alloc::{AllocError, Global};
 use std::marker::Model;
 
 /// Working space: a signed number for each pair of n vertices or places, at most 1,000.
 #[derive(Drop)]
 pub struct Residual {
-    n: u32,
-    cells: Vec<i128>,
+    grid: Grid<i128>,
 }
 
 impl Model for Residual {
+    ghost use Rattle.clu_partition.specs.Grids.{IsGrid};
     ghost use Rattle.clu_partition.specs.Pairs.{Pairs};
-    ghost use Rattle.std.specs.Prelude.{◌≡◌, ◌≤◌, ◌*◌, length};
 
     ghost Value = { Pairs };
 
-    ghost view = { λ t. record { n = t.n; weights = t.cells.items } };
+    ghost view = { λ r. r.grid };
 
-    ghost invariant = { λ t. (t.n ≤ 1000) × (length t.cells.items ≡ t.n * t.n) };
+    ghost invariant = { λ r. IsGrid r.grid };
 }
 
 impl Residual {
@@ -29,9 +31,9 @@ impl Residual {
     pub fn n(&self) -> usize
         ensures value { result ≡ self.now.n }
         ensures small { result ≤ 1000 }
-        ensures places { length self.now.weights ≡ self.now.n * self.now.n }
+        ensures grid { IsGrid self.now }
     {
-        self.n as usize
+        self.grid.n() as usize
     }
 
     /// Room for n vertices.
@@ -41,46 +43,31 @@ impl Residual {
         ensures zero { IfOk result (λ r. (u v : ℕ) → weight_of r u v ≡ pos 0) }
     {
         let size = n as usize;
+        let cells = vec![in alloc; 0; size * size]?;
         Ok(Residual {
-            n,
-            cells: vec![in alloc; 0; size * size]?,
+            grid: Grid::from_cells(n, cells),
         })
     }
 
     /// The number of a pair, in either order; 0 where the two are one.
-    pub fn get(&self, u: usize, v: usize) -> i128
-        requires first { u < self.now.n }
-        requires second { v < self.now.n }
-        ensures { result ≡ weight_of self.now u v }
+    pub fn get(&self, p: Place, q: Place) -> i128
+        requires first { p < self.now.n }
+        requires second { q < self.now.n }
+        ensures { result ≡ weight_of self.now p q }
     {
-        if u == v {
+        if p == q {
             return 0;
         }
-        let i = place(self.n as usize, u, v);
-        self.cells[i]
+        self.grid.get(p, q)
     }
 
     /// Gives a pair its number.
-    pub fn set(&mut self, u: usize, v: usize, w: i128)
-        requires first { u < self.old.n }
-        requires second { v < self.old.n }
-        ensures changed { self.new ≡ with_weight self.old u v w }
-        ensures places { length self.old.weights ≡ self.old.n * self.old.n }
+    pub fn set(&mut self, p: Place, q: Place, number: i128)
+        requires first { p < self.old.n }
+        requires second { q < self.old.n }
+        ensures changed { self.new ≡ with_weight self.old p q number }
+        ensures grid { IsGrid self.old }
     {
-        let i = place(self.n as usize, u, v);
-        self.cells[i] = w;
+        self.grid.set(p, q, number);
     }
-}
-
-/// Where the number of u and v stands.
-fn place(n: usize, u: usize, v: usize) -> usize
-    requires first { u < n }
-    requires second { v < n }
-    requires small { n ≤ 1000 }
-    ensures value { result ≡ place_of n u v }
-    ensures within { result < n * n }
-{
-    let low = u.min(v);
-    let high = u.max(v);
-    low * n + high
 }

@@ -1,19 +1,19 @@
 //! The weights of pairs of vertices (clique partitioning, Grötschel and Wakabayashi 1989): a square of which the half above
 //! the diagonal is used, so that both orders of a pair are one cell, and unused cells are 0, so that the weights determine it.
-ghost use Rattle.std.specs.Prelude.{◌≡◌, ◌≢◌, ◌<◌, ◌≤◌, ◌^◌, ◌*◌, IfOk, unsigned_abs, ℕ, pos};
-ghost use Rattle.clu_partition.specs.Pairs.{weight_of, with_weight, total_of, place as place_of};
+ghost use Rattle.std.specs.Prelude.{◌≡◌, ◌≢◌, ◌<◌, ◌≤◌, ◌^◌, IfOk, unsigned_abs, ℕ, pos};
+ghost use Rattle.clu_partition.specs.Pairs.{weight_of, with_weight, total_of};
 
-use crate::Vertex;
+use crate::grid::Grid;
 use crate::sums::pair_sum;
+use crate::{Place, Vertex};
 use std::alloc::{AllocError, Global};
 use std::marker::Model;
 
-/// The weights of the pairs of n vertices, each a signed number of at most 2^88 in size. The two
+/// The weights of the pairs of n vertices or places, each a signed number of at most 2^88 in size. The two
 /// orders of a pair have one weight.
 #[derive(Debug, Drop)]
 pub struct PairTable {
-    n: u32,
-    weights: Vec<i128>,
+    grid: Grid<i128>,
 }
 
 impl Model for PairTable {
@@ -21,22 +21,9 @@ impl Model for PairTable {
 
     ghost Value = { Pairs };
 
-    ghost view = { λ t. record { n = t.n; weights = t.weights.items } };
+    ghost view = { λ t. t.grid };
 
-    ghost invariant = { λ t. IsTable (record { n = t.n; weights = t.weights.items }) };
-}
-
-/// Where what belongs to the pair of u and v, in either order, stands in a list of n * n.
-pub fn place(n: u32, u: Vertex, v: Vertex) -> usize
-    requires first { u < n }
-    requires second { v < n }
-    requires small { n ≤ 1000 }
-    ensures value { result ≡ place_of n u v }
-    ensures within { result < n * n }
-{
-    let low = u.0.min(v.0) as usize;
-    let high = u.0.max(v.0) as usize;
-    low * n as usize + high
+    ghost invariant = { λ t. IsTable t.grid };
 }
 
 impl PairTable {
@@ -49,9 +36,9 @@ impl PairTable {
         ensures zero { IfOk result (λ t. (u v : ℕ) → weight_of t u v ≡ pos 0) }
     {
         let size = n as usize;
+        let cells = vec![in alloc; 0; size * size]?;
         Ok(PairTable {
-            n,
-            weights: vec![in alloc; 0; size * size]?,
+            grid: Grid::from_cells(n, cells),
         })
     }
 
@@ -61,7 +48,7 @@ impl PairTable {
         ensures table { IsTable self.now }
         ensures small { result ≤ 1000 }
     {
-        self.n
+        self.grid.n()
     }
 
     /// The weight of the pair of u and v; 0 where they are one vertex.
@@ -71,11 +58,20 @@ impl PairTable {
         ensures value { result ≡ weight_of self.now u v }
         ensures small { unsigned_abs result ≤ 2 ^ 88 }
     {
-        if u == v {
+        self.at(u.place(), v.place())
+    }
+
+    /// The weight of the pair at p and q; 0 where they are one place.
+    pub fn at(&self, p: Place, q: Place) -> i128
+        requires first { p < self.now.n }
+        requires second { q < self.now.n }
+        ensures value { result ≡ weight_of self.now p q }
+        ensures small { unsigned_abs result ≤ 2 ^ 88 }
+    {
+        if p == q {
             return 0;
         }
-        let i = place(self.n, u, v);
-        self.weights[i]
+        self.grid.get(p, q)
     }
 
     /// Gives the pair of u and v the weight w.
@@ -88,8 +84,28 @@ impl PairTable {
         ensures table { IsTable self.old }
         ensures kept { IsTable self.new }
     {
-        let i = place(self.n, u, v);
-        self.weights[i] = w;
+        self.set_at(u.place(), v.place(), w);
+    }
+
+    /// Gives the pair at p and q the weight w.
+    pub fn set_at(&mut self, p: Place, q: Place, w: i128)
+        requires first { p < self.old.n }
+        requires second { q < self.old.n }
+        requires differ { p ≢ q }
+        requires small { unsigned_abs w ≤ 2 ^ 88 }
+        ensures changed { self.new ≡ with_weight self.old p q w }
+        ensures table { IsTable self.old }
+        ensures kept { IsTable self.new }
+    {
+        self.grid.set(p, q, w);
+    }
+
+    /// Takes the weights of another table of as many vertices.
+    pub fn copy_from(&mut self, other: &PairTable)
+        requires size { self.old.n ≡ other.now.n }
+        ensures { self.new ≡ other.now }
+    {
+        self.grid.copy_from(&other.grid);
     }
 
     /// The total of the absolute weights of all pairs.
