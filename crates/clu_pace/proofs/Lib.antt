@@ -1,5 +1,5 @@
 pub mod GraphLaws
-pub mod Cells
+pub mod Adjacency
 pub mod Kept
 pub mod Lines
 pub mod Reading

@@ -3,4 +3,4 @@ pub mod Numbers
 pub mod NumberLaws
 pub mod Pace
 pub mod Refusals
-pub mod Table
+pub mod Adjacency
