@@ -3,14 +3,15 @@ use Rattle.std.proofs.Common.{◌≡◌, ◌≢◌, All, ℕ, ◌<◌, ◌≤◌
 use Rattle.std.proofs.lemmas.Int.{ints}
 use Rattle.std.proofs.lemmas.List.Elements.{All-drop}
 use Rattle.clu_partition.specs.Sums.{total, pair_total, only_if}
-use Rattle.clu_partition.specs.Pairs.{Pairs, weight_of, with_weight, place, are_pair}
+use Rattle.clu_partition.specs.Grids.{IsGrid}
+use Rattle.clu_partition.specs.Pairs.{Pairs, weight_of, with_weight, are_pair}
 use Rattle.clu_state.specs.Building.{GrownBy, share, kept, size_between, HasHome, HasRoom}
 use Rattle.clu_partition.proofs.PairLaws.{not_pair, added}
 use Rattle.clu_partition.proofs.ListLaws.{tail_is}
 use Rattle.clu_partition.proofs.SumLaws.{zero_least, total_least, pair_least}
 
 -- ---- one more pair
-pub pair_added : (t old new : Pairs) (at' : ℕ → ℕ) (u v p q x z : ℕ) (k w : ℤ) → length old.weights ≡ old.n * old.n → p < old.n → q < old.n → x < old.n → z < old.n → x ≢ z →
+pub pair_added : (t old new : Pairs) (at' : ℕ → ℕ) (u v p q x z : ℕ) (k w : ℤ) → IsGrid old → p < old.n → q < old.n → x < old.n → z < old.n → x ≢ z →
     p ≡ at' u → q ≡ at' v → k ≡ weight_of t u v → w ≡ weight_of old p q +ℤ k → new ≡ with_weight old p q w → weight_of new x z ≡ weight_of old x z +ℤ share (weight_of t) at' x z u v
 pair_added t old new at' u v p q x z k w l lp lq lx lz d ep eq' ek ew en =
     added old new p q x z k w l lp lq lx lz d ew en ∙

@@ -4,6 +4,7 @@ use Rattle.std.proofs.lemmas.Int.{ints}
 use Rattle.std.proofs.lemmas.Grind.{get_or_default_zero}
 use Rattle.std.proofs.lemmas.List.Elements.{All-contains, All-head, All-tail}
 use Rattle.clu_partition.specs.Closed.{Closed, IsClosed, joins}
+use Rattle.clu_partition.specs.Grids.{IsGrid}
 use Rattle.clu_partition.specs.Groups.{between}
 use Rattle.clu_partition.specs.Pairs.{Pairs, weight_of, total_of, are_pair}
 use Rattle.clu_partition.specs.Sums.{pair_total}
@@ -12,7 +13,7 @@ use Rattle.clu_partition.proofs.TableLaws.{weight_sym}
 use Rattle.clu_state.specs.declared.decision.Decision.{Decision}
 use Rattle.clu_state.specs.State.{IsState, AreMembers, undecided}
 use Rattle.clu_state.specs.Rebuilt.{Agrees}
-use Rattle.clu_partition.specs.PairSets.{Chosen, has, with_pair, AreCells}
+use Rattle.clu_partition.specs.PairSets.{Chosen, has, with_pair}
 use Rattle.clu_partition.proofs.PairMerges.{put_here, put_other, has_turn}
 use Rattle.clu_state.proofs.Bridge.{each_from, rising_from_index}
 use Rattle.clu_state.proofs.Bounds.{members_small}
@@ -24,7 +25,7 @@ use Rattle.clu_partition.proofs.ListLaws.{few_rising}
 use Rattle.clu_partition.proofs.BoolLaws.{or_false}
 
 -- one more pair of members
-pub marked_pair : (members place : List ℕ) (old new : Chosen) (u v p q x z : ℕ) → AreCells old → old.n ≡ length members → ArePlaces members place →
+pub marked_pair : (members place : List ℕ) (old new : Chosen) (u v p q x z : ℕ) → IsGrid old → old.n ≡ length members → ArePlaces members place →
     Contains members u → Contains members v → p ≡ slice_index place u → q ≡ slice_index place v → new ≡ with_pair old p q → x < length members → z < length members →
     has new x z ≡ (are_pair u v (slice_index members x) (slice_index members z) || has old x z)
 marked_pair members place old new u v p q x z a n at' cu cv ep eq' en lx lz = ap (λ (m : Chosen). has m x z) en ∙ ⊎_elim

@@ -46,4 +46,4 @@ step_add old now new members group low high j size t l p q n a b e m = subst (λ
     jo = let s = m.size in omega (arith, s, size)
 
     at_j : weight_of (with_weight now low j (weight_of now low j +ℤ weight_of now high j)) low j ≡ weight_of old low j +ℤ weight_of old high j
-    at_j = set_same now low j (weight_of now low j +ℤ weight_of now high j) lo jo (λ g. a (sym g)) t.places ∙ ap (λ z. z +ℤ weight_of now high j) (m.left j (omega arith) l) ∙ ap (λ z. weight_of old low j +ℤ z) (m.others high j q l (λ g. n (sym g)) a)
+    at_j = set_same now low j (weight_of now low j +ℤ weight_of now high j) lo jo (λ g. a (sym g)) t.grid ∙ ap (λ z. z +ℤ weight_of now high j) (m.left j (omega arith) l) ∙ ap (λ z. weight_of old low j +ℤ z) (m.others high j q l (λ g. n (sym g)) a)

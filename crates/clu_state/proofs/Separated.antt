@@ -4,10 +4,11 @@ use Rattle.std.proofs.lemmas.Bool.{cases_eq}
 use Rattle.std.proofs.lemmas.List.Elements.{Contains-append_right}
 use Rattle.clu_partition.specs.Pairs.{Pairs, weight_of}
 use Rattle.clu_partition.specs.Closed.{joins}
+use Rattle.clu_partition.specs.Grids.{IsGrid}
 use Rattle.clu_partition.specs.Groups.{between}
 use Rattle.clu_partition.specs.Values.{value_on}
 use Rattle.clu_partition.proofs.JoinLaws.{joins_turn, joins_same, joins_listed}
-use Rattle.clu_partition.specs.PairSets.{Chosen, has, with_pair, AreCells}
+use Rattle.clu_partition.specs.PairSets.{Chosen, has, with_pair}
 use Rattle.clu_state.specs.State.{State, IsFree, leader, kept_apart, are_apart, decided}
 use Rattle.clu_state.specs.Rebuilt.{Agrees, Leads}
 use Rattle.clu_state.specs.declared.decision.Decision.TheVariants.{Apart}
@@ -26,7 +27,7 @@ which x y a b = ⊎_elim
     (cases_eq x a)
 
 -- the new marks
-apart_mark : (s : State) (group place : List ℕ) (weights : Pairs) (marks : Chosen) (fixed : ℤ) (u v a b : ℕ) → AreCells marks → Agrees s group place weights marks fixed → IsFree s u v →
+apart_mark : (s : State) (group place : List ℕ) (weights : Pairs) (marks : Chosen) (fixed : ℤ) (u v a b : ℕ) → IsGrid marks → Agrees s group place weights marks fixed → IsFree s u v →
     Leads s a → Leads s b → a ≢ b →
     has (with_pair marks (at_group s place u) (at_group s place v)) (slice_index place a) (slice_index place b) ≡ joins (leader s) (kept_apart s ++ (u, v) ∷ []) a b
 apart_mark s group place weights marks fixed u v a b am g f la lb ab = ⊎_elim
@@ -68,7 +69,7 @@ apart_mark s group place weights marks fixed u v a b am g f la lb ab = ⊎_elim
         joins_same (leader s) (kept_apart s ++ (u, v) ∷ []) x y u v (l.least ∙ sym e) (k.least ∙ sym h) ∙
         joins_listed (leader s) (kept_apart s ++ (u, v) ∷ []) (u, v) (Contains-append_right (kept_apart s) ((u, v) ∷ []) (u, v) (0, omega arith, refl))
 
-pub agrees_apart : (s : State) (group place : List ℕ) (weights : Pairs) (old new : Chosen) (fixed : ℤ) (u v p q : ℕ) → Agrees s group place weights old fixed → IsFree s u v → AreCells old →
+pub agrees_apart : (s : State) (group place : List ℕ) (weights : Pairs) (old new : Chosen) (fixed : ℤ) (u v p q : ℕ) → Agrees s group place weights old fixed → IsFree s u v → IsGrid old →
     p ≡ slice_index place (slice_index group u) → q ≡ slice_index place (slice_index group v) → new ≡ with_pair old p q → Agrees (decided s (Apart u v)) group place weights new fixed
 agrees_apart s group place weights old new fixed u v p q g f am ep eq' en = record {
   state = decided_state s (Apart u v) g.state f;

@@ -9,7 +9,7 @@ ghost use Rattle.clu_partition.specs.Sums.{total, pair_total};
 ghost use Rattle.clu_state.specs.Building.{home as home_of, HasHome, HasRoom, ArePlaces, GrownBy, MarkedBy, share, kept, size_between};
 
 use crate::Rebuilt;
-use clu_partition::{PairSet, PairTable, Start, Vertex};
+use clu_partition::{PairSet, PairTable, Place, Start, Vertex};
 use std::alloc::{AllocError, Global};
 
 impl<'p> Rebuilt<'p> {
@@ -75,7 +75,7 @@ fn groups(alloc: Global, start: &Start) -> Result<Vec<Vertex>, AllocError>
 }
 
 /// The place of each member, by its number; 0 for each other one of n vertices.
-fn places(alloc: Global, n: u32, members: &[Vertex]) -> Result<Vec<u32>, AllocError>
+fn places(alloc: Global, n: u32, members: &[Vertex]) -> Result<Vec<Place>, AllocError>
     requires rising { (i j : ℕ) → i < j → j < length members.now
         → slice_index members.now i < slice_index members.now j }
     requires below { All (λ v. v < n) members.now }
@@ -83,21 +83,28 @@ fn places(alloc: Global, n: u32, members: &[Vertex]) -> Result<Vec<u32>, AllocEr
     ensures size { IfOk result (λ list. length list.items ≡ n) }
     ensures places { IfOk result (λ list. ArePlaces members.now list.items) }
 {
-    let mut list = vec![in alloc; 0; n as usize]?;
+    let mut list = vec![in alloc; Place(0); n as usize]?;
     for (i, v) in members.iter().enumerate() {
-        list[v.0 as usize] = i as u32;
+        list[v.0 as usize] = Place(i);
     }
     Ok(list)
 }
 
+/// The place of a member.
+pub(crate) fn place_of(place: &[Place], v: Vertex) -> Place
+    requires { v < length place.now }
+    ensures { result ≡ slice_index place.now v }
+{
+    place[v.0 as usize]
+}
+
 /// The place of the least vertex of the group of v.
-pub(crate) fn home(group: &[Vertex], place: &[u32], v: Vertex) -> Vertex
+pub(crate) fn home(group: &[Vertex], place: &[Place], v: Vertex) -> Place
     requires group { v < length group.now }
     requires place { slice_index group.now v < length place.now }
     ensures { result ≡ home_of group.now place.now v }
 {
-    let least = group[v.0 as usize];
-    Vertex(place[least.0 as usize])
+    place_of(place, group[v.0 as usize])
 }
 
 /// Adds the weight of u and v to that of the places of their groups. Where these are one, it is the
@@ -105,7 +112,7 @@ pub(crate) fn home(group: &[Vertex], place: &[u32], v: Vertex) -> Vertex
 fn add_pair(
     pairs: &PairTable,
     group: &[Vertex],
-    place: &[u32],
+    place: &[Place],
     weights: &mut PairTable,
     u: Vertex,
     v: Vertex,
@@ -124,8 +131,8 @@ fn add_pair(
     if p == q {
         return weight;
     }
-    let sum = weights.get(p, q) + weight;
-    weights.set(p, q, sum);
+    let sum = weights.at(p, q) + weight;
+    weights.set_at(p, q, sum);
     0
 }
 
@@ -133,7 +140,7 @@ fn add_pair(
 fn add_with(
     pairs: &PairTable,
     group: &[Vertex],
-    place: &[u32],
+    place: &[Place],
     weights: &mut PairTable,
     u: Vertex,
     others: &[Vertex],
@@ -161,7 +168,7 @@ fn add_with(
 fn add_all(
     pairs: &PairTable,
     group: &[Vertex],
-    place: &[u32],
+    place: &[Place],
     weights: &mut PairTable,
     members: &[Vertex],
 ) -> i128
@@ -183,17 +190,17 @@ fn add_all(
 }
 
 /// Whether v is the member that stands at its place.
-fn is_member(members: &[Vertex], place: &[u32], v: Vertex) -> bool
+fn is_member(members: &[Vertex], place: &[Place], v: Vertex) -> bool
     requires place { v < length place.now }
     requires places { ArePlaces members.now place.now }
     ensures { IsTrue result ↔ Contains members.now v }
 {
-    let i = place[v.0 as usize] as usize;
+    let i = place_of(place, v).0;
     i < members.len() && members[i] == v
 }
 
 /// Marks the places of u and v, where both are members.
-fn mark_pair(members: &[Vertex], place: &[u32], marks: &mut PairSet, u: Vertex, v: Vertex)
+fn mark_pair(members: &[Vertex], place: &[Place], marks: &mut PairSet, u: Vertex, v: Vertex)
     requires first { u < length place.now }
     requires second { v < length place.now }
     requires places { ArePlaces members.now place.now }
@@ -204,11 +211,11 @@ fn mark_pair(members: &[Vertex], place: &[u32], marks: &mut PairSet, u: Vertex, 
     if !is_member(members, place, u) || !is_member(members, place, v) {
         return;
     }
-    marks.put(Vertex(place[u.0 as usize]), Vertex(place[v.0 as usize]));
+    marks.put_at(place_of(place, u), place_of(place, v));
 }
 
 /// Marks the places of the two members of each of the pairs that have two.
-fn mark_pairs(pairs: &[(Vertex, Vertex)], members: &[Vertex], place: &[u32], marks: &mut PairSet)
+fn mark_pairs(pairs: &[(Vertex, Vertex)], members: &[Vertex], place: &[Place], marks: &mut PairSet)
     requires pairs { All (λ p. (p.0 < length place.now) × (p.1 < length place.now)) pairs.now }
     requires places { ArePlaces members.now place.now }
     requires size { marks.old.n ≡ length members.now }

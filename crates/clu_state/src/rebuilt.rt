@@ -7,9 +7,9 @@ ghost use Rattle.clu_partition.specs.Pairs.{Pairs, weight_of, with_weight, IsTab
 ghost use Rattle.clu_state.specs.Rebuilt.{Agrees};
 ghost use Rattle.clu_state.specs.State.{State, CanDecide, decided};
 
-use crate::build::home;
+use crate::build::{home, place_of};
 use crate::{Decision, Situation};
-use clu_partition::{PairSet, PairTable, Start, Vertex};
+use clu_partition::{PairSet, PairTable, Place, Start, Vertex};
 use std::alloc::AllocError;
 use std::marker::Model;
 
@@ -24,7 +24,7 @@ pub struct Rebuilt<'p> {
     /// The least vertex of each vertex's group.
     pub(crate) group: Vec<Vertex>,
     /// Where each member stands among the members.
-    pub(crate) place: Vec<u32>,
+    pub(crate) place: Vec<Place>,
     /// The weights between groups, at the places of their least vertices.
     pub(crate) weights: PairTable,
     /// Which groups are apart, at the same places.
@@ -62,13 +62,13 @@ impl<'p> Situation for Rebuilt<'p> {
     fn weight(&self, u: Vertex, v: Vertex) -> i128 {
         let p = place_of(&self.place, self.group_of(u));
         let q = place_of(&self.place, self.group_of(v));
-        self.weights.get(p, q)
+        self.weights.at(p, q)
     }
 
     fn is_apart(&self, u: Vertex, v: Vertex) -> bool {
         let p = place_of(&self.place, self.group_of(u));
         let q = place_of(&self.place, self.group_of(v));
-        self.apart.has(p, q)
+        self.apart.has_at(p, q)
     }
 
     fn fixed_value(&self) -> i128 {
@@ -102,14 +102,6 @@ impl<'p> Situation for Rebuilt<'p> {
     }
 }
 
-/// The place of a member.
-fn place_of(place: &[u32], v: Vertex) -> Vertex
-    requires { v < length place.now }
-    ensures { result ≡ slice_index place.now v }
-{
-    Vertex(place[v.0 as usize])
-}
-
 /// The smaller one of the least vertices of two groups.
 fn lower_leader(group: &[Vertex], u: Vertex, v: Vertex) -> Vertex
     requires first { u < length group.now }
@@ -133,7 +125,7 @@ fn higher_leader(group: &[Vertex], u: Vertex, v: Vertex) -> Vertex
 /// Makes one group of those of `u` and `v`, and answers the weight that was between the two.
 fn join(
     members: &[Vertex],
-    place: &[u32],
+    place: &[Place],
     group: &mut [Vertex],
     weights: &mut PairTable,
     apart: &mut PairSet,
@@ -152,7 +144,7 @@ fn join(
     let high = higher_leader(group, u, v);
     let p = place_of(place, low);
     let q = place_of(place, high);
-    let gained = weights.get(p, q);
+    let gained = weights.at(p, q);
     merge_weights(members, group, weights, p, q);
     apart.merge(p, q);
     relabel(members, group, low, high);
@@ -160,7 +152,7 @@ fn join(
 }
 
 /// Marks the groups of `u` and `v` as apart.
-fn separate(place: &[u32], group: &[Vertex], apart: &mut PairSet, u: Vertex, v: Vertex)
+fn separate(place: &[Place], group: &[Vertex], apart: &mut PairSet, u: Vertex, v: Vertex)
     requires some { (s : State) × (weights : Pairs) × (fixed : ℤ)
         × Agrees s group.now place.now weights apart.old fixed × CanDecide s (Decision.Apart u v) }
     ensures { (s : State) (weights : Pairs) (fixed : ℤ)
@@ -169,7 +161,7 @@ fn separate(place: &[u32], group: &[Vertex], apart: &mut PairSet, u: Vertex, v: 
 {
     let p = home(group, place, u);
     let q = home(group, place, v);
-    apart.put(p, q);
+    apart.put_at(p, q);
 }
 
 /// The members of the group `high` go over to `low`.
@@ -198,7 +190,7 @@ fn take_over(group: &mut [Vertex], v: Vertex, low: Vertex, high: Vertex)
 }
 
 /// Adds the weight of `high` and x to that of `low` and x.
-fn add_weight(weights: &mut PairTable, low: Vertex, high: Vertex, x: Vertex)
+fn add_weight(weights: &mut PairTable, low: Place, high: Place, x: Place)
     requires low { low < weights.old.n }
     requires high { high < weights.old.n }
     requires x { x < weights.old.n }
@@ -209,13 +201,13 @@ fn add_weight(weights: &mut PairTable, low: Vertex, high: Vertex, x: Vertex)
         +ℤ weight_of weights.old high x) }
     ensures table { IsTable weights.old }
 {
-    let first = weights.get(low, x);
-    let second = weights.get(high, x);
-    weights.set(low, x, first + second);
+    let first = weights.at(low, x);
+    let second = weights.at(high, x);
+    weights.set_at(low, x, first + second);
 }
 
 /// Whether v leads its group and its place is neither of the two.
-fn leads_apart(group: &[Vertex], v: Vertex, place: Vertex, low: Vertex, high: Vertex) -> bool
+fn leads_apart(group: &[Vertex], v: Vertex, place: Place, low: Place, high: Place) -> bool
     requires { v < length group.now }
     ensures { IsTrue result ↔ ((slice_index group.now v ≡ v) × ((place ≢ low) × (place ≢ high))) }
 {
@@ -228,8 +220,8 @@ fn merge_weights(
     members: &[Vertex],
     group: &[Vertex],
     weights: &mut PairTable,
-    low: Vertex,
-    high: Vertex,
+    low: Place,
+    high: Place,
 )
     requires sizes { weights.old.n ≡ length members.now }
     requires few { length members.now ≤ 1000 }
@@ -248,7 +240,7 @@ fn merge_weights(
         → weight_of weights.new i j ≡ weight_of weights.old i j }
 {
     for (j, v) in members.iter().enumerate() {
-        let x = Vertex(j as u32);
+        let x = Place(j);
         if leads_apart(group, *v, x, low, high) {
             add_weight(weights, low, high, x);
         }

@@ -11,13 +11,13 @@ returns-then-eq-clause-sums c = λ x z lx lz d.
     pair_inside c.args.pairs.now c.args.weights.now (home c.args.group.now c.args.place.now) c.args.u c.args.v x z
     (sym c.home-p.ensures ∙ eqb-true c.home-p.result c.home-q.result (sym c.eq.ensures ∙ c.if-eq.true) ∙ c.home-q.ensures) d
 
-pub set-requires-clause-small : goal.set-requires-clause-small
-set-requires-clause-small c =
+pub set_at-requires-clause-small : goal.set_at-requires-clause-small
+set_at-requires-clause-small c =
     let w : to_z w128 (of_z w128 c.get-weight.result) ≡ c.get-weight.result = omega (arith, ints) in
     let d = eqb-false c.home-p.result c.home-q.result (sym c.eq.ensures ∙ c.if-eq.false) in
     let s = pair_small c.args.pairs.now c.args.weights.now c.args.u c.args.v c.home-p.result c.home-q.result c.get-weight.result c.requires.room
     (let l = c.requires.first.low in let e = c.home-p.ensures in omega (arith, l, e)) (let l = c.requires.second.low in let e = c.home-q.ensures in omega (arith, l, e)) d c.get-weight.ensures.value in
-    let e = c.get.ensures.value in
+    let e = c.at.ensures.value in
     omega (arith, ints, s, e, w)
 
 pub returns-clause-sums : goal.returns-clause-sums
@@ -26,6 +26,6 @@ returns-clause-sums c = λ x z lx lz d.
     let lp : c.home-p.result < c.args.weights.now.n = (let l = c.requires.first.low in let e = c.home-p.ensures in omega (arith, l, e)) in
     let lq : c.home-q.result < c.args.weights.now.n = (let l = c.requires.second.low in let e = c.home-q.ensures in omega (arith, l, e)) in
     let s = pair_small c.args.pairs.now c.args.weights.now c.args.u c.args.v c.home-p.result c.home-q.result c.get-weight.result c.requires.room lp lq n c.get-weight.ensures.value in
-    let e = c.get.ensures.value in
-    pair_added c.args.pairs.now c.args.weights.now c.set.new.self (home c.args.group.now c.args.place.now) c.args.u c.args.v c.home-p.result c.home-q.result x z c.get-weight.result (to_z w128 (of_z w128 (to_z w128 (of_z w128 c.get.result) +ℤ to_z w128 (of_z w128 c.get-weight.result))))
-    c.set.ensures.table.places lp lq lx lz d c.home-p.ensures c.home-q.ensures c.get-weight.ensures.value (omega (arith, ints, s, e)) c.set.ensures.changed
+    let e = c.at.ensures.value in
+    pair_added c.args.pairs.now c.args.weights.now c.set_at.new.self (home c.args.group.now c.args.place.now) c.args.u c.args.v c.home-p.result c.home-q.result x z c.get-weight.result (to_z w128 (of_z w128 (to_z w128 (of_z w128 c.at.result) +ℤ to_z w128 (of_z w128 c.get-weight.result))))
+    c.set_at.ensures.table.grid lp lq lx lz d c.home-p.ensures c.home-q.ensures c.get-weight.ensures.value (omega (arith, ints, s, e)) c.set_at.ensures.changed

@@ -14,13 +14,13 @@ place_of-q-requires c =
     let r = ready_at c.requires.some.0 c.args.members.now c.args.group.now c.args.place.now c.args.weights.now c.args.apart.now c.requires.some.1 c.args.u c.args.v c.lower_leader-low.result c.higher_leader-high.result c.requires.some.2 c.requires.some.3 c.requires.some.4 c.lower_leader-low.ensures c.higher_leader-high.ensures in
     r.high_below
 
-pub get-gained-requires-clause-first : goal.get-gained-requires-clause-first
-get-gained-requires-clause-first c =
+pub at-gained-requires-clause-first : goal.at-gained-requires-clause-first
+at-gained-requires-clause-first c =
     let r = ready_at c.requires.some.0 c.args.members.now c.args.group.now c.args.place.now c.args.weights.now c.args.apart.now c.requires.some.1 c.args.u c.args.v c.lower_leader-low.result c.higher_leader-high.result c.requires.some.2 c.requires.some.3 c.requires.some.4 c.lower_leader-low.ensures c.higher_leader-high.ensures in
     let a = r.low_place in let b = r.size in omega (arith, a, b, c.place_of-p.ensures)
 
-pub get-gained-requires-clause-second : goal.get-gained-requires-clause-second
-get-gained-requires-clause-second c =
+pub at-gained-requires-clause-second : goal.at-gained-requires-clause-second
+at-gained-requires-clause-second c =
     let r = ready_at c.requires.some.0 c.args.members.now c.args.group.now c.args.place.now c.args.weights.now c.args.apart.now c.requires.some.1 c.args.u c.args.v c.lower_leader-low.result c.higher_leader-high.result c.requires.some.2 c.requires.some.3 c.requires.some.4 c.lower_leader-low.ensures c.higher_leader-high.ensures in
     let a = r.high_place in let b = r.size in omega (arith, a, b, c.place_of-q.ensures)
 
@@ -73,4 +73,4 @@ returns c = λ s fixed em g f.
     c.lower_leader-low.ensures c.higher_leader-high.ensures c.relabel.auto.group c.relabel.ensures
     (record { size = c.merge_weights.ensures.size; sums = c.merge_weights.ensures.sums; others = c.merge_weights.ensures.others })
     (record { size = c.merge.ensures.size; joined = c.merge.ensures.joined; others = c.merge.ensures.others })
-    c.place_of-p.ensures c.place_of-q.ensures (let e = c.get-gained.ensures.value in omega (arith, ints, e))
+    c.place_of-p.ensures c.place_of-q.ensures (let e = c.at-gained.ensures.value in omega (arith, ints, e))

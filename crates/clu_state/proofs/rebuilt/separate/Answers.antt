@@ -14,16 +14,16 @@ home-q-requires-clause-group c = (parts c.requires.some.0 c.args.group.now c.arg
 pub home-q-requires-clause-place : goal.home-q-requires-clause-place
 home-q-requires-clause-place c = (parts c.requires.some.0 c.args.group.now c.args.place.now c.requires.some.1 c.args.apart.now c.requires.some.2 c.args.v c.requires.some.3 c.requires.some.4.second).leader_below
 
-pub put-requires-clause-first : goal.put-requires-clause-first
-put-requires-clause-first c =
+pub put_at-requires-clause-first : goal.put_at-requires-clause-first
+put_at-requires-clause-first c =
     let p = (parts c.requires.some.0 c.args.group.now c.args.place.now c.requires.some.1 c.args.apart.now c.requires.some.2 c.args.u c.requires.some.3 c.requires.some.4.first).place_below in
     omega (arith, p, c.home-p.ensures)
 
-pub put-requires-clause-second : goal.put-requires-clause-second
-put-requires-clause-second c =
+pub put_at-requires-clause-second : goal.put_at-requires-clause-second
+put_at-requires-clause-second c =
     let p = (parts c.requires.some.0 c.args.group.now c.args.place.now c.requires.some.1 c.args.apart.now c.requires.some.2 c.args.v c.requires.some.3 c.requires.some.4.second).place_below in
     omega (arith, p, c.home-q.ensures)
 
 pub returns : goal.returns
 returns c = λ s weights fixed g f.
-    agrees_apart s c.args.group.now c.args.place.now weights c.args.apart.now c.put.new.self fixed c.args.u c.args.v c.home-p.result c.home-q.result g f c.put.ensures.cells c.home-p.ensures c.home-q.ensures c.put.ensures.put
+    agrees_apart s c.args.group.now c.args.place.now weights c.args.apart.now c.put_at.new.self fixed c.args.u c.args.v c.home-p.result c.home-q.result g f c.put_at.ensures.grid c.home-p.ensures c.home-q.ensures c.put_at.ensures.put

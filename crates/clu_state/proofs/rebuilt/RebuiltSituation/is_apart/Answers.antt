@@ -18,15 +18,15 @@ place_of-q-requires c =
     let d = ap length c.deref-2.ensures.value in
     omega (arith, p, d, c.group_of-2.ensures.value)
 
-pub has-requires-clause-first : goal.has-requires-clause-first
-has-requires-clause-first c =
+pub has_at-requires-clause-first : goal.has_at-requires-clause-first
+has_at-requires-clause-first c =
     let g = subst (λ (s : State). Agrees s c.self.inside.group.items c.self.inside.place.items c.self.inside.weights c.self.inside.apart c.self.inside.fixed) c.self.view_is c.self.invariant in
     let p = (placed c.args.self.now c.self.inside.group.items c.self.inside.place.items c.self.inside.weights c.self.inside.apart c.self.inside.fixed c.args.u g c.requires.first).in_marks in
     let e = c.place_of-p.ensures ∙ ap₂ slice_index c.deref.ensures.value c.group_of.ensures.value in
     omega (arith, p, e)
 
-pub has-requires-clause-second : goal.has-requires-clause-second
-has-requires-clause-second c =
+pub has_at-requires-clause-second : goal.has_at-requires-clause-second
+has_at-requires-clause-second c =
     let g = subst (λ (s : State). Agrees s c.self.inside.group.items c.self.inside.place.items c.self.inside.weights c.self.inside.apart c.self.inside.fixed) c.self.view_is c.self.invariant in
     let p = (placed c.args.self.now c.self.inside.group.items c.self.inside.place.items c.self.inside.weights c.self.inside.apart c.self.inside.fixed c.args.v g c.requires.second).in_marks in
     let e = c.place_of-q.ensures ∙ ap₂ slice_index c.deref-2.ensures.value c.group_of-2.ensures.value in
@@ -38,4 +38,4 @@ returns c =
     let e = c.place_of-p.ensures ∙ ap₂ slice_index c.deref.ensures.value c.group_of.ensures.value in
     let f = c.place_of-q.ensures ∙ ap₂ slice_index c.deref-2.ensures.value c.group_of-2.ensures.value in
     let k = apart_at c.args.self.now c.self.inside.group.items c.self.inside.place.items c.self.inside.weights c.self.inside.apart c.self.inside.fixed c.args.u c.args.v c.place_of-p.result c.place_of-q.result g c.requires.first c.requires.second c.requires.differ e f in
-    c.has.ensures ∙ k
+    c.has_at.ensures ∙ k
