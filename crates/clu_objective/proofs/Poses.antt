@@ -69,7 +69,7 @@ module _ (graph : PaceGraph) (pairs : Pairs) (base : ℤ) (table : IsTable pairs
   pub posed : unsigned_abs base ≤ 2 ^ 89 → IsPosed (edit_problem pairs base)
   posed few = record {
     table = table;
-    total = units_small pairs (edge_weight graph) table.size (λ x z order l. ap unsigned_abs (weights x z order (omega (arith, l, size))) ∙ unit_size (are_adjacent graph.edges x z));
+    total = units_small pairs (edge_weight graph) table.grid.small (λ x z order l. ap unsigned_abs (weights x z order (omega (arith, l, size))) ∙ unit_size (are_adjacent graph.edges x z));
     base = few;
     factor = refl;
   }

@@ -4,7 +4,7 @@ use Rattle.std.proofs.lemmas.Bool.{true≢false}
 use Rattle.std.proofs.lemmas.List.{take_more, map-append}
 use Rattle.std.proofs.lemmas.List.Elements.{All-contains, Contains-append_left, Contains-push, Contains-push_cases}
 use Rattle.clu_partition.specs.PairSets.{Chosen, has, IsListed}
-use Rattle.clu_partition.proofs.TableLaws.{place_sym}
+use Rattle.clu_partition.proofs.GridLaws.{value_sym}
 use Rattle.clu_partition.proofs.StartLaws.{all_from, map_from, map_to}
 use Rattle.clu_rules.specs.Lines.{Rule, rule_of, tied, parted, valued, shared, differing, alike}
 use Rattle.clu_rules.specs.declared.rule.Rule.{Rule as Found}
@@ -106,7 +106,7 @@ list_of n rules found S empty set list e size none all within p m = record {
         (x.0, x.1, subst (λ (r : Rule). S rules r u v) (sym x.2) w.2)
 
     turned : (u v : ℕ) → has set v u ≡ true → has set u v ≡ true
-    turned u v h = ap (λ (k : ℕ). get_or set.cells k false) (place_sym set.n u v) ∙ h
+    turned u v h = value_sym set false u v ∙ h
 
 given_below : (n : ℕ) (rules : List Rule) (key : List ℕ) (v : ℕ) (value : List ℕ) → All (IsBelow n) rules → HasValue rules key v value → v < n
 given_below n rules key v value all c = All-contains (IsBelow n) rules (valued v key value) all c

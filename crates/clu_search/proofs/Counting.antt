@@ -15,7 +15,7 @@ use Rattle.clu_state.specs.declared.decision.Decision.{Decision}
 use Rattle.clu_state.specs.declared.decision.Decision.TheVariants.{Together, Apart}
 use Rattle.clu_state.proofs.Whole.{among_below}
 use Rattle.clu_search.specs.Count.{HasEachPermitted}
-use Rattle.clu_search.proofs.Own.{own_class}
+use Rattle.clu_state.proofs.Own.{own_class}
 use Rattle.clu_partition.proofs.ListLaws.{each_append}
 use Rattle.clu_search.proofs.Pigeon.{Pairwise, among_contains, each_cross, pairwise_append, pigeon_mapped}
 use Rattle.clu_search.proofs.Canon.{Differ, canonical, numbered, canonical_numbered, canonical_differ, numbered_tells, numbered_same}

@@ -14,7 +14,7 @@ use Rattle.clu_state.specs.State.{State, IsState, leader, fixed_value}
 use Rattle.clu_state.proofs.Built.{few_members}
 use Rattle.clu_search.specs.Incumbent.{IsIncumbent}
 use Rattle.clu_search.specs.declared.incumbent.Incumbent.{Incumbent}
-use Rattle.clu_search.proofs.Own.{own_class, own_permitted_all}
+use Rattle.clu_state.proofs.Own.{own_class, own_permitted_all}
 
 same_test : (a b x y : ℕ) (z : ℤ) → (a ≡ b → x ≡ y) → (x ≡ y → a ≡ b) → only_if (x == y) z ≡ only_if (a == b) z
 same_test a b x y z to from = ⊎_elim

@@ -3,7 +3,6 @@ pub mod Certified
 pub mod Counted
 pub mod Counting
 pub mod Incumbents
-pub mod Own
 pub mod PartsCounted
 pub mod Permitted
 pub mod Pigeon

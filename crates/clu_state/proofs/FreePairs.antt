@@ -5,7 +5,7 @@ use Rattle.std.proofs.lemmas.List.{get_or-drop, drop_more, drop_all}
 use Rattle.std.proofs.lemmas.List.Elements.{All-cons, All-nil, All-head, All-tail, All-append}
 use Rattle.clu_partition.proofs.SumLaws.{Each, Rising}
 use Rattle.clu_partition.proofs.Regroup.{leaders_rising, leaders_lead}
-use Rattle.clu_state.specs.State.{State, IsState, IsFree, leader, are_apart, group_leaders, free_with, free_of, free_pairs}
+use Rattle.clu_state.specs.State.{State, AreLater, IsState, IsFree, leader, are_apart, group_leaders, free_with, free_of, free_pairs}
 use Rattle.clu_state.specs.Rebuilt.{Leads}
 use Rattle.clu_state.proofs.Bridge.{among_from, contains_from, state_are_groups, contains_at}
 use Rattle.clu_state.proofs.Class.{among_filtered}
@@ -38,6 +38,14 @@ later_all s groups i a h e l f = λ k d n.
     let at_k : get_or (drop (i + 1) groups) k d ≡ slice_index groups (i + 1 + k) = get_or-drop (i + 1) groups k d ∙ get_or_default_zero groups (i + 1 + k) d m in
     subst (Later s a) (sym at_k)
     (subst (λ x. Later s x (slice_index groups (i + 1 + k))) (sym (f ∙ get_or_default_zero groups i a l)) (later_at s groups i (i + 1 + k) h e (omega arith) m))
+
+-- a group's leader, and those behind it in the list
+pub with_later : (s : State) (groups later : List ℕ) (i a : ℕ) → IsState s → groups ≡ group_leaders s → i < length groups → a ≡ get_or groups i a → later ≡ drop (i + 1) groups → AreLater s a later
+with_later s groups later i a h e l f is = record {
+  member = subst (Contains s.members) (sym (f ∙ get_or_default_zero groups i a l)) (leads_at s groups i h e l).member;
+  members = subst (All (Contains s.members)) (sym is) (λ k d n. (later_all s groups i a h e l f k d n).member);
+  differ = subst (All (λ b. leader s a ≢ leader s b)) (sym is) (λ k d n. (later_all s groups i a h e l f k d n).differ);
+}
 
 pub free_next : (s : State) (groups : List ℕ) (i a : ℕ) (old new whole : List (ℕ × ℕ)) → i < length groups → a ≡ get_or groups i a →
     new ≡ old ++ free_with s a (take (length groups - (i + 1)) (drop (i + 1) groups)) → old ++ free_of s (drop i groups) ≡ whole → new ++ free_of s (drop (i + 1) groups) ≡ whole

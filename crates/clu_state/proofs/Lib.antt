@@ -17,3 +17,4 @@ pub mod Built
 pub mod Whole
 pub mod Best
 pub mod Settling
+pub mod Own

@@ -57,6 +57,12 @@ pub record IsFree (s : State) (u v : ℕ) : Type 0 where
   pub differ : leader s u ≢ leader s v
   pub allowed : are_apart s u v ≡ false
 
+-- a member, and members of other groups
+pub record AreLater (s : State) (a : ℕ) (later : List ℕ) : Type 0 where
+  pub member : Contains s.members a
+  pub members : All (Contains s.members) later
+  pub differ : All (λ b. leader s a ≢ leader s b) later
+
 abbrev pub free_with : State → ℕ → List ℕ → List (ℕ × ℕ)
 free_with s a [] = []
 free_with s a (b ∷ bs) = if are_apart s a b then free_with s a bs else (a, b) ∷ free_with s a bs

@@ -9,6 +9,7 @@ ghost use Rattle.clu_partition.specs.Sums.{total, pair_total};
 ghost use Rattle.clu_state.specs.Building.{home as home_of, HasHome, HasRoom, ArePlaces, GrownBy, MarkedBy, share, kept, size_between};
 
 use crate::Rebuilt;
+use crate::copy::copied;
 use clu_partition::{PairSet, PairTable, Place, Start, Vertex};
 use std::alloc::{AllocError, Global};
 
@@ -40,7 +41,7 @@ impl<'p> Rebuilt<'p> {
         Ok(Rebuilt {
             pairs,
             start,
-            members: copy(alloc, members)?,
+            members: copied(alloc, members)?,
             decisions: Vec::new(alloc),
             group,
             place,
@@ -49,17 +50,6 @@ impl<'p> Rebuilt<'p> {
             fixed,
         })
     }
-}
-
-/// A list of these vertices.
-fn copy(alloc: Global, vertices: &[Vertex]) -> Result<Vec<Vertex>, AllocError>
-    ensures { IfOk result (λ list. list.items ≡ vertices.now) }
-{
-    let mut list = Vec::with_capacity(alloc, vertices.len())?;
-    for v in vertices {
-        list.push(*v)?;
-    }
-    Ok(list)
 }
 
 /// The least vertex of each vertex's group.
@@ -190,7 +180,7 @@ fn add_all(
 }
 
 /// Whether v is the member that stands at its place.
-fn is_member(members: &[Vertex], place: &[Place], v: Vertex) -> bool
+pub(crate) fn is_member(members: &[Vertex], place: &[Place], v: Vertex) -> bool
     requires place { v < length place.now }
     requires places { ArePlaces members.now place.now }
     ensures { IsTrue result ↔ Contains members.now v }

@@ -6,6 +6,7 @@
 #![tactic(auto)]
 
 mod build;
+mod copy;
 mod decision;
 mod rebuilt;
 mod situation;

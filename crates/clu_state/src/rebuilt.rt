@@ -7,7 +7,7 @@ ghost use Rattle.clu_partition.specs.Pairs.{Pairs, weight_of, with_weight, IsTab
 ghost use Rattle.clu_state.specs.Rebuilt.{Agrees};
 ghost use Rattle.clu_state.specs.State.{State, CanDecide, decided};
 
-use crate::build::{home, place_of};
+use crate::build::{home, is_member, place_of};
 use crate::{Decision, Situation};
 use clu_partition::{PairSet, PairTable, Place, Start, Vertex};
 use std::alloc::AllocError;
@@ -49,6 +49,13 @@ impl<'p> Situation for Rebuilt<'p> {
 
     fn members(&self) -> &[Vertex] {
         &self.members
+    }
+
+    fn has_member(&self, v: Vertex) -> bool {
+        if v.0 as usize >= self.place.len() {
+            return false;
+        }
+        is_member(&self.members, &self.place, v)
     }
 
     fn decisions(&self) -> &[Decision] {

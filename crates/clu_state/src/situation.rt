@@ -1,9 +1,9 @@
 //! What the solver and the checker ask of a state, as a trait, so that neither knows how one keeps its groups. Leaders
 //! and free pairs are written here once, over the other answers, and so are proved for every state.
 
-ghost use Rattle.std.specs.Prelude.{◌≡◌, ◌≢◌, ◌++◌, All, ℕ, ℤ, Contains, IfOk, OnOk, OnErr};
+ghost use Rattle.std.specs.Prelude.{◌≡◌, ◌≢◌, ◌↔◌, ◌++◌, All, ℕ, ℤ, Contains, IfOk, IsTrue, OnOk, OnErr, map};
 ghost use Rattle.clu_state.specs.Chains.{IsLeastTied};
-ghost use Rattle.clu_state.specs.State.{State, IsFree, IsState, leader, group_weight, are_apart, fixed_value, free_pairs, free_with, group_leaders, CanDecide, decided};
+ghost use Rattle.clu_state.specs.State.{State, AreLater, IsFree, IsState, leader, group_weight, are_apart, fixed_value, free_pairs, free_with, group_leaders, CanDecide, decided};
 
 use crate::Decision;
 use clu_partition::{Seq, Vertex};
@@ -19,6 +19,10 @@ pub trait Situation {
     fn members(&self) -> &[Vertex]
         ensures value { result.now ≡ (state self.now).members }
         ensures valid { IsState (state self.now) };
+
+    /// Whether v is a member.
+    fn has_member(&self, v: Vertex) -> bool
+        ensures { IsTrue result ↔ Contains (state self.now).members v };
 
     /// The decisions in the order in which they were made.
     fn decisions(&self) -> &[Decision]
@@ -53,6 +57,33 @@ pub trait Situation {
         requires { CanDecide (state self.old) d }
         ensures ok { OnOk result (state self.new ≡ decided (state self.old) d) }
         ensures err { OnErr result (state self.new ≡ state self.old) };
+
+    /// Whether u and v are members of different groups that are not apart.
+    final fn is_free(&self, u: Vertex, v: Vertex) -> bool
+        ensures { IsTrue result ↔ IsFree (state self.now) u v }
+    {
+        if !self.has_member(u) || !self.has_member(v) {
+            return false;
+        }
+        if self.group_of(u) == self.group_of(v) {
+            return false;
+        }
+        !self.is_apart(u, v)
+    }
+
+    /// The least vertex of each member's group, in the order of the members.
+    final fn group_labels(&self, alloc: Global) -> Result<Vec<u32>, AllocError>
+        ensures value { IfOk result (λ labels. labels.items
+            ≡ map (leader (state self.now)) (state self.now).members) }
+        ensures valid { IsState (state self.now) }
+    {
+        let members = self.members();
+        let mut labels = Vec::with_capacity(alloc, members.len())?;
+        for v in members {
+            labels.push(self.group_of(*v).0)?;
+        }
+        Ok(labels)
+    }
 
     /// The least vertices of the groups, rising.
     final fn leaders(&self, alloc: Global) -> Result<Seq<Vertex>, AllocError>
@@ -90,9 +121,7 @@ fn push_free<S: Situation>(
     a: Vertex,
     later: &[Vertex],
 ) -> Result<(), AllocError>
-    requires first { Contains (S.state state.now).members a }
-    requires members { All (Contains (S.state state.now).members) later.now }
-    requires differ { All (λ b. leader (S.state state.now) a ≢ leader (S.state state.now) b) later.now }
+    requires { AreLater (S.state state.now) a later.now }
     ensures { OnOk result (pairs.new.items
         ≡ pairs.old.items ++ free_with (S.state state.now) a later.now) }
 {

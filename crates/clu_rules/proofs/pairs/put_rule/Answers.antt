@@ -10,11 +10,11 @@ pub returns-in-Together-clause-required : goal.returns-in-Together-clause-requir
 returns-in-Together-clause-required c =
     let low = subst (λ (r : Rule). IsBelow c.args.required.now.n (rule_of r)) c.in-Together.is c.requires.one in
     subst (λ (r : Rule). Puts (Ties (map rule_of c.args.rules.now) (rule_of r)) c.args.required.now c.put.new.self) (sym c.in-Together.is)
-    (puts_one c.args.required.now c.put.new.self c.in-Together.u c.in-Together.v c.put.ensures.cells low.0 low.1 c.put.ensures.put)
+    (puts_one c.args.required.now c.put.new.self c.in-Together.u c.in-Together.v c.put.ensures.grid low.0 low.1 c.put.ensures.put)
 
 pub returns-in-Apart-clause-forbidden : goal.returns-in-Apart-clause-forbidden
 returns-in-Apart-clause-forbidden c =
     let low = subst (λ (n : _). IsBelow n (rule_of c.args.rule.now)) (sym c.requires.one_size) c.requires.one in
     let low = subst (λ (r : Rule). IsBelow c.args.forbidden.now.n (rule_of r)) c.in-Apart.is low in
     subst (λ (r : Rule). Puts (Parts (map rule_of c.args.rules.now) (rule_of r)) c.args.forbidden.now c.put-in-Apart.new.self) (sym c.in-Apart.is)
-    (puts_one c.args.forbidden.now c.put-in-Apart.new.self c.in-Apart.u c.in-Apart.v c.put-in-Apart.ensures.cells low.0 low.1 c.put-in-Apart.ensures.put)
+    (puts_one c.args.forbidden.now c.put-in-Apart.new.self c.in-Apart.u c.in-Apart.v c.put-in-Apart.ensures.grid low.0 low.1 c.put-in-Apart.ensures.put)

@@ -42,4 +42,4 @@ invariant_of-result c =
     c.in_ok-weights.ensures.size c.in_ok-weights.ensures.zero c.add_all-fixed.ensures.size c.add_all-fixed.ensures.sums c.add_all-fixed.ensures.inside
     c.in_ok-apart.ensures.size c.in_ok-apart.ensures.none c.mark_pairs.ensures.size
     (λ x z lx lz. c.mark_pairs.ensures.marked x z lx lz ∙ ap (λ (ps : _). joins (λ v. v) ps (slice_index c.args.members.now x) (slice_index c.args.members.now z) || has c.in_ok-apart.apart x z) c.forbidden.ensures))
-    c.in_ok-copy.ensures c.new-3.ensures.items c.deref.ensures.value c.deref-2.ensures.value wk
+    c.in_ok-copied.ensures c.new-3.ensures.items c.deref.ensures.value c.deref-2.ensures.value wk
