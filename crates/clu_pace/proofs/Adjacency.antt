@@ -1,9 +1,9 @@
 -- The set of adjacent pairs, as edges come in.
-use Rattle.std.proofs.Common.{◌≡◌, ℕ, ◌+◌, ◌*◌, ◌<◌, ◌&&◌, ◌||◌, Bool, true, false, List, [], ◌∷◌, ◌++◌, min, max, get_or, nat_eq, refl, sym, ◌∙◌, ap, ⊎_elim, subst, arith}
+use Rattle.std.proofs.Common.{◌≡◌, ℕ, ◌+◌, ◌*◌, ◌<◌, ◌&&◌, ◌||◌, true, false, List, [], ◌∷◌, ◌++◌, min, max, get_or, nat_eq, refl, sym, ◌∙◌, ap, ⊎_elim, subst, arith}
 use Rattle.std.proofs.lemmas.Bool.{cases_eq, eq-eqb, or_parts}
 use Rattle.std.proofs.lemmas.Bool.Decides.{nat_tests}
 use Rattle.std.proofs.lemmas.List.Folds.{list_any-append}
-use Rattle.clu_partition.specs.Grids.{cell_of, IsGrid}
+use Rattle.clu_partition.specs.Grids.{IsGrid}
 use Rattle.clu_partition.specs.PairSets.{Chosen, has, with_pair}
 use Rattle.clu_partition.proofs.GridLaws.{value_here, value_other}
 use Rattle.clu_pace.specs.Graph.{is_edge, are_adjacent, AreWithin, NoneTwice}
@@ -62,9 +62,9 @@ one_edge_more edges old new u v was grid order at absent is = subst (IsAdjacency
   once = once_push edges (u, v) was.once (sym (in_order edges u v order) ∙ absent);
   each = λ a b at_a at_b. ⊎_elim
       (λ low. ⊎_elim
-          (λ high. here a b low high)
-          (λ differ. there a b at_a at_b (λ e. differ (e.1)))
-          (cases_eq (max a b) v))
+      (λ high. here a b low high)
+      (λ differ. there a b at_a at_b (λ e. differ (e.1)))
+      (cases_eq (max a b) v))
       (λ differ. there a b at_a at_b (λ e. differ (e.0)))
       (cases_eq (min a b) u);
 })

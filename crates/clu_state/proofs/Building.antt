@@ -1,5 +1,5 @@
 -- The tables of a state without decisions, as they are built.
-use Rattle.std.proofs.Common.{◌≡◌, ◌≢◌, All, ℕ, ◌<◌, ◌≤◌, ◌+◌, ◌*◌, ◌^◌, ℤ, pos, ◌+ℤ◌, ◌≤ℤ◌, List, [], ◌∷◌, length, take, drop, ◌-◌, get_or, Bool, true, false, ◌==◌, sym, ap, ◌∙◌, subst, arith, zero, suc, unsigned_abs}
+use Rattle.std.proofs.Common.{◌≡◌, ◌≢◌, All, ℕ, ◌<◌, ◌≤◌, ◌+◌, ◌^◌, ℤ, pos, ◌+ℤ◌, ◌≤ℤ◌, List, [], ◌∷◌, length, take, drop, ◌-◌, get_or, Bool, true, false, ◌==◌, sym, ap, ◌∙◌, subst, arith, zero, suc, unsigned_abs}
 use Rattle.std.proofs.lemmas.Int.{ints}
 use Rattle.std.proofs.lemmas.List.Elements.{All-drop}
 use Rattle.clu_partition.specs.Sums.{total, pair_total, only_if}

@@ -1,5 +1,5 @@
 -- Two vertices are tied exactly where they have one least vertex.
-use Rattle.std.proofs.Common.{zero, suc, slice_index_or, if◌then◌else◌, ◌==◌, ◌≡◌, ℕ, ◌<◌, ◌⊎◌, ⊎_elim, min, max, List, [], ◌∷◌, length, slice_index, Contains, refl, sym, ap, ◌∙◌, subst, arith}
+use Rattle.std.proofs.Common.{zero, suc, slice_index_or, if◌then◌else◌, ◌==◌, ◌≡◌, ℕ, ◌<◌, ⊎_elim, min, max, List, [], ◌∷◌, length, slice_index, Contains, refl, sym, ap, ◌∙◌, subst, arith}
 use Rattle.std.proofs.lemmas.List.Elements.{All-contains, Contains-append_right, Contains-append_cases}
 use Rattle.clu_state.specs.State.{State, IsState, merged, groups_after, leader}
 use Rattle.clu_state.specs.Chains.{Tied, same, required, joined, back, chain, IsLeastTied}

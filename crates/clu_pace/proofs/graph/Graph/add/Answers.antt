@@ -1,5 +1,4 @@
-use Rattle.std.proofs.Common.{◌≡◌, ℕ, ◌<◌, List, ap, ◌∙◌, sym, subst, arith}
-use Rattle.clu_partition.specs.Grids.{IsGrid}
+use Rattle.std.proofs.Common.{ℕ, List, ap, ◌∙◌, sym, subst, arith}
 use Rattle.clu_pace.specs.Adjacency.{IsAdjacency}
 use Rattle.clu_pace.specs.Graph.{PaceGraph, are_adjacent}
 use Rattle.clu_pace.proofs.Adjacency.{one_edge_more}
