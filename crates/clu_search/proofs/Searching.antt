@@ -1,5 +1,5 @@
 -- The steps of a search: a node is finished, and an open leaf is split on its pair.
-use Rattle.std.proofs.Common.{◌≡◌, ◌≢◌, ◌⊎◌, inl, inr, ⊎_elim, ℕ, ◌<◌, ◌≤◌, ◌^◌, ℤ, ◌≤ℤ◌, List, [], ◌∷◌, ◌++◌, None, Result, Ok, Err, OnOk, refl, sym, ap, ◌∙◌, subst, arith, length, map}
+use Rattle.std.proofs.Common.{◌≡◌, ◌≢◌, ◌⊎◌, inl, inr, ⊎_elim, ℕ, ◌<◌, ◌≤◌, ◌^◌, ℤ, ◌≤ℤ◌, List, [], ◌∷◌, ◌++◌, None, refl, sym, ap, ◌∙◌, subst, arith, length, map}
 use Rattle.std.specs.List.{AllByRecursion}
 use Rattle.std.proofs.lemmas.Int.{ints}
 use Rattle.clu_partition.specs.Closed.{Closed as Rules, IsClosed}
@@ -23,10 +23,11 @@ use Rattle.clu_tree.specs.Nodes.{Tree, Shown, HasKey, LeafAt, IsOpen, items_of, 
 use Rattle.clu_tree.specs.declared.node.Fresh.{Fresh}
 use Rattle.clu_tree.proofs.KeyLaws.{unsplit_once}
 use Rattle.clu_search.specs.Incumbent.{IsIncumbent}
-use Rattle.clu_search.specs.Search.{AreSettled, IsAbove, IsCertified, IsSearch, IsSettled, made}
+use Rattle.clu_search.specs.Search.{AreSettled, AreStates, IsAbove, IsCertified, IsSearch, IsSettled, made}
 use Rattle.clu_search.specs.Whole.{certificate_of}
 use Rattle.clu_search.specs.declared.incumbent.Incumbent.{Incumbent}
 use Rattle.clu_search.specs.declared.search.Search.{Search}
+use Rattle.clu_search.specs.declared.states.States.{States}
 use Rattle.clu_search.proofs.Certified.{IsFound, found_valid, found_exact, found_fits, found_branchings, found_optimal}
 
 pub task_of : (problem : Posed) (start : Rules) → IsPosed problem → IsState (whole problem start) → IsTask problem start
@@ -86,12 +87,25 @@ pub with_nodes : (s : Search) (t : Tree) (ns : List Shown) → IsSearch s → t 
 with_nodes s t ns i e settled = record {
   posed = i.posed;
   state = i.state;
-  vertices = i.vertices;
+  states = i.states;
   root = ap (λ (r : Tree). r.root) e ∙ i.root;
   floor = subst (λ z. z ≤ℤ s.incumbent.value) (sym (ap (λ (r : Tree). r.floor) e)) i.floor;
   room = i.room;
   known = i.known;
   settled = settled;
+}
+
+-- the same search with other states
+pub with_states : (s : Search) (states : States) → IsSearch s → AreStates s.states.root states → IsSearch (record s { states = states })
+with_states s states i are = record {
+  posed = i.posed;
+  state = i.state;
+  states = subst (λ r. AreStates r states) i.states.root are;
+  root = i.root;
+  floor = i.floor;
+  room = i.room;
+  known = i.known;
+  settled = i.settled;
 }
 
 -- the same search with a better partition
@@ -100,7 +114,7 @@ pub with_best : (s : Search) (best : Incumbent) (scratch : Room) → IsSearch s 
 with_best s best scratch i more room known = record {
   posed = i.posed;
   state = i.state;
-  vertices = i.vertices;
+  states = i.states;
   root = i.root;
   floor = let floor = i.floor in omega (arith, ints, floor, more);
   room = room;
@@ -137,18 +151,11 @@ certified s items z f are reached count each = record {
 }
 
 -- ---- the ends of the steps
-ok_both : {T E : Type 0} (r : Result T E) (P Q R : Type 0) → (P → Q → R) → OnOk r P → OnOk r Q → OnOk r R
-ok_both (Ok x) P Q R f p q = f p q
-ok_both (Err e) P Q R f p q = tt
-
 -- the groups of a state of the search were tried
-pub with_fresh : {T E : Type 0} (s : Search) (t : State) (ds : List Decision) (best : Incumbent) (scratch : Room) (r : Result T E) → IsSearch s →
-    t ≡ record (whole s.problem.now s.start.now) { decisions = ds } → OnOk r (IsIncumbent t.pairs t.start best) →
-    OnOk r (s.incumbent.value ≤ℤ best.value) → scratch.n ≡ s.scratch.n → OnOk r (IsSearch (record s { incumbent = best; scratch = scratch }))
-with_fresh s t ds best scratch r i e known more room =
-    ok_both r (IsIncumbent t.pairs t.start best) (s.incumbent.value ≤ℤ best.value) (IsSearch (record s { incumbent = best; scratch = scratch }))
-    (λ k m. with_best s best scratch i m (let had = i.room in omega (arith, had, room)) (subst (λ (u : State). IsIncumbent u.pairs u.start best) e k))
-    known more
+pub with_fresh : (s : Search) (t : State) (ds : List Decision) (best : Incumbent) (scratch : Room) → IsSearch s → t ≡ record (whole s.problem.now s.start.now) { decisions = ds } →
+    IsIncumbent t.pairs t.start best → s.incumbent.value ≤ℤ best.value → scratch.n ≡ s.scratch.n → IsSearch (record s { incumbent = best; scratch = scratch })
+with_fresh s t ds best scratch i e known more room =
+    with_best s best scratch i more (let had = i.room in omega (arith, had, room)) (subst (λ (u : State). IsIncumbent u.pairs u.start best) e known)
 
 -- the rules are for the problem
 pub state_for : (problem seen : Posed) (start : Rules) (n : ℕ) → seen ≡ problem → IsPosed seen → IsClosed start → n ≡ seen.pairs.n → n ≤ 1000 →
@@ -182,13 +189,13 @@ root_of problem start pairs members floor fresh t e f is = (
 )
 
 pub first_search : (s : Search) (fresh : Fresh) (floor : ℤ) → IsPosed s.problem.now → IsState (whole s.problem.now s.start.now) →
-    s.vertices ≡ below s.problem.now.pairs.n → IsRoot s.problem.now s.start.now floor fresh s.tree → floor ≡ s.incumbent.value →
+    AreStates (whole s.problem.now s.start.now) s.states → IsRoot s.problem.now s.start.now floor fresh s.tree → floor ≡ s.incumbent.value →
     s.problem.now.pairs.n ≤ s.scratch.n → IsIncumbent s.problem.now.pairs s.start.now s.incumbent → IsSettled s.incumbent.value fresh.bound →
     IsSearch s
-first_search s fresh floor posed state vertices root is room known settled = record {
+first_search s fresh floor posed state states root is room known settled = record {
   posed = posed;
   state = state;
-  vertices = vertices;
+  states = states;
   root = ap (λ (t : Tree). t.root) root.1;
   floor = let e = ap (λ (t : Tree). t.floor) root.1 in omega (arith, ints, e, is);
   room = room;

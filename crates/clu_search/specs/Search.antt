@@ -1,8 +1,7 @@
 -- How far a search is: the branch tree of all vertices, and the best partition so far.
-use Rattle.std.specs.Prelude.{◌≡◌, ◌⊎◌, ℕ, ◌≤◌, ℤ, ◌≤ℤ◌, ◌<ℤ◌, List, None}
-use Rattle.clu_partition.specs.Partition.{below}
+use Rattle.std.specs.Prelude.{◌≡◌, ◌⊎◌, ℕ, ◌≤◌, ℤ, ◌≤ℤ◌, ◌<ℤ◌, List, [], None}
 use Rattle.clu_objective.specs.Problem.{IsPosed}
-use Rattle.clu_state.specs.State.{IsState}
+use Rattle.clu_state.specs.State.{State, IsState}
 use Rattle.clu_node.specs.declared.bound.NodeBound.{NodeBound}
 use Rattle.clu_node.specs.declared.bound.How.TheVariants.{Closed}
 use Rattle.clu_cert.specs.Fits.{Fits}
@@ -13,6 +12,7 @@ use Rattle.clu_tree.specs.Nodes.{LeafAt, Shown, items_of}
 use Rattle.clu_search.specs.Incumbent.{IsIncumbent}
 use Rattle.clu_search.specs.Outcome.{StatesItsBound, branchings_of}
 use Rattle.clu_search.specs.declared.search.Search.{Search}
+use Rattle.clu_search.specs.declared.states.States.{States}
 
 -- the leaf is closed only where its bound is no more than this value, and it is closed where it has no free pair
 pub record IsSettled (best : ℤ) (node : NodeBound) : Type 0 where
@@ -23,12 +23,19 @@ pub record IsSettled (best : ℤ) (node : NodeBound) : Type 0 where
 abbrev pub AreSettled : ℤ → List Shown → Type 0
 AreSettled best nodes = (key : ℕ) (node : NodeBound) → LeafAt key node nodes → IsSettled best node
 
+-- three states of one problem: the first has no decisions, the others may have some
+pub record AreStates (root : State) (states : States) : Type 0 where
+  pub undecided : root.decisions ≡ []
+  pub root : states.root ≡ root
+  pub together : states.together ≡ record root { decisions = states.together.decisions }
+  pub apart : states.apart ≡ record root { decisions = states.apart.decisions }
+
 -- the rules are for the problem, the tree is that of all its vertices, and its bounds were found beside partitions no better
 -- than the best one
 pub record IsSearch (s : Search) : Type 0 where
   pub posed : IsPosed s.problem.now
   pub state : IsState (whole s.problem.now s.start.now)
-  pub vertices : s.vertices ≡ below s.problem.now.pairs.n
+  pub states : AreStates (whole s.problem.now s.start.now) s.states
   pub root : s.tree.root ≡ whole s.problem.now s.start.now
   pub floor : s.tree.floor ≤ℤ s.incumbent.value
   pub room : s.problem.now.pairs.n ≤ s.scratch.n

@@ -1,10 +1,10 @@
 //! The incumbent: the best permitted partition so far. The groups of a state are themselves such a
 //! partition, worth the state's fixed value, so each node gives a candidate at the cost of one reading.
 
-ghost use Rattle.std.specs.Prelude.{◌≡◌, ◌≤◌, ◌≤ℤ◌, IfOk, OnOk, length, map};
+ghost use Rattle.std.specs.Prelude.{◌≡◌, ◌≤◌, ◌≤ℤ◌, IfOk, OnOk, length};
 ghost use Rattle.clu_partition.specs.Closed.{IsClosed};
 ghost use Rattle.clu_partition.specs.Partition.{below};
-ghost use Rattle.clu_state.specs.State.{IsState, leader, fixed_value};
+ghost use Rattle.clu_state.specs.State.{fixed_value};
 ghost use Rattle.clu_search.specs.Incumbent.{IsIncumbent};
 
 use clu_objective::Problem;
@@ -52,7 +52,7 @@ impl Incumbent {
     {
         let value = state.fixed_value();
         if value > self.value {
-            let labels = groups_of_state(alloc, state)?;
+            let labels = state.group_labels(alloc)?;
             self.partition = Partition::from_labels(alloc, &labels)?;
             self.value = value;
         }
@@ -70,20 +70,6 @@ fn groups_of_rules(alloc: Global, start: &Start) -> Result<Vec<u32>, AllocError>
     let mut labels = Vec::with_capacity(alloc, n as usize)?;
     for v in 0..n {
         labels.push(start.group(Vertex(v)).0)?;
-    }
-    Ok(labels)
-}
-
-/// The least vertex of each member's group.
-fn groups_of_state<S: Situation>(alloc: Global, state: &S) -> Result<Vec<u32>, AllocError>
-    ensures groups { IfOk result (λ labels. labels.items
-        ≡ map (leader (S.state state.now)) (S.state state.now).members) }
-    ensures valid { IfOk result (λ _. IsState (S.state state.now)) }
-{
-    let members = state.members();
-    let mut labels = Vec::with_capacity(alloc, members.len())?;
-    for v in members {
-        labels.push(state.group_of(*v).0)?;
     }
     Ok(labels)
 }

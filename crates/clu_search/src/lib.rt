@@ -11,6 +11,7 @@ mod incumbent;
 mod outcome;
 mod search;
 mod solver;
+mod states;
 
 pub use outcome::{End, Limits, Outcome};
 pub use solver::solve;

@@ -4,20 +4,20 @@
 
 ghost use Rattle.std.specs.Prelude.{◌≡◌, ◌+◌, ◌≤◌, ◌<◌, ◌^◌, ◌≤ℤ◌, IfOk, OnOk, length};
 ghost use Rattle.clu_partition.specs.Partition.{below};
-ghost use Rattle.clu_state.specs.State.{State, IsState, CanDecide, CanDecideAll, decided};
-ghost use Rattle.clu_cert.specs.Valid.{whole};
+ghost use Rattle.clu_state.specs.State.{State};
 ghost use Rattle.clu_tree.specs.Nodes.{IsFit};
 ghost use Rattle.clu_search.specs.Incumbent.{IsIncumbent};
 ghost use Rattle.clu_search.specs.Search.{IsAbove, IsCertified, IsSearch, IsSettled, IsStopped, SameTask, made};
 
 use crate::certify::certify;
 use crate::incumbent::Incumbent;
+use crate::states::States;
 use clu_cert::Certificate;
 use clu_node::bound_node;
 use clu_objective::Problem;
-use clu_partition::{Partition, Seq, Start, Vertex, all_vertices};
+use clu_partition::{Partition, Seq, Start, all_vertices};
 use clu_rows::Scratch;
-use clu_state::{Decision, Rebuilt, Situation};
+use clu_state::Situation;
 use clu_tree::{Fresh, Tree};
 use std::alloc::{AllocError, Global};
 
@@ -26,7 +26,7 @@ use std::alloc::{AllocError, Global};
 pub(crate) struct Search<'p> {
     problem: &'p Problem,
     start: &'p Start,
-    vertices: Seq<Vertex>,
+    states: States<'p>,
     tree: Tree<'p>,
     pub(crate) incumbent: Incumbent,
     scratch: Scratch,
@@ -49,43 +49,19 @@ impl<'p> Search<'p> {
         let vertices = all_vertices(alloc, problem.pairs.n())?;
         let mut incumbent = Incumbent::first(alloc, problem, start)?;
         let mut scratch = Scratch::new(alloc, problem.pairs.n())?;
-        let state = rebuilt(alloc, problem, start, vertices.as_slice(), &[])?;
-        let root = fresh(alloc, &state, &mut incumbent, &mut scratch)?;
+        let states = States::new(alloc, problem, start, vertices.as_slice())?;
+        let root = fresh(alloc, &states.root, &mut incumbent, &mut scratch)?;
         let floor = incumbent.value;
         let members = vertices.as_slice();
         let tree = Tree::new(alloc, &problem.pairs, start, floor, members, &[], root)?;
         Ok(Search {
             problem,
             start,
-            vertices,
+            states,
             tree,
             incumbent,
             scratch,
         })
-    }
-
-    /// What stands at the node to which a decision leads from the end of a path.
-    fn fresh_after(
-        &mut self,
-        alloc: Global,
-        path: &[Decision],
-        decision: Decision,
-    ) -> Result<Fresh, AllocError>
-        requires search { IsSearch self.old }
-        requires path { IsState (record self.old.tree.root { decisions = path.now }) }
-        requires decision { CanDecide (record self.old.tree.root { decisions = path.now }) decision }
-        ensures search { OnOk result (IsSearch self.new) }
-        ensures task { OnOk result (SameTask self.old self.new) }
-        ensures tree { OnOk result (self.new.tree ≡ self.old.tree) }
-        ensures risen { OnOk result (self.old.incumbent.value ≤ℤ self.new.incumbent.value) }
-        ensures fit { IfOk result (λ fresh.
-            IsFit (decided (record self.old.tree.root { decisions = path.now }) decision) fresh) }
-        ensures settled { IfOk result (λ fresh. IsSettled self.new.incumbent.value fresh.bound) }
-    {
-        let vertices = self.vertices.as_slice();
-        let mut state = rebuilt(alloc, self.problem, self.start, vertices, path)?;
-        state.decide(decision)?;
-        fresh(alloc, &state, &mut self.incumbent, &mut self.scratch)
     }
 
     /// Splits a leaf on its pair. The child with the pair together is finished first, so that the
@@ -102,8 +78,9 @@ impl<'p> Search<'p> {
         };
         let (u, v) = pair;
         let path = self.tree.path(alloc, key)?;
-        let together = self.fresh_after(alloc, &path, Decision::Together(u, v))?;
-        let apart = self.fresh_after(alloc, &path, Decision::Apart(u, v))?;
+        self.states.split_after(alloc, &path, u, v)?;
+        let together = fresh(alloc, &self.states.together, &mut self.incumbent, &mut self.scratch)?;
+        let apart = fresh(alloc, &self.states.apart, &mut self.incumbent, &mut self.scratch)?;
         self.tree.split(key, u, v, together, apart)?;
         Ok(())
     }
@@ -145,26 +122,6 @@ impl<'p> Search<'p> {
         let certificate = certify(alloc, self.problem, &self.incumbent, items, upper)?;
         Ok((self.incumbent.partition, certificate))
     }
-}
-
-/// The state of all vertices after the decisions of a path.
-fn rebuilt<'p>(
-    alloc: Global,
-    problem: &'p Problem,
-    start: &'p Start,
-    vertices: &[Vertex],
-    path: &[Decision],
-) -> Result<Rebuilt<'p>, AllocError>
-    requires valid { IsState (whole problem.now start.now) }
-    requires vertices { vertices.now ≡ below problem.now.pairs.n }
-    requires path { CanDecideAll (whole problem.now start.now) path.now }
-    ensures { IfOk result (λ state. state ≡ record (whole problem.now start.now) { decisions = path.now }) }
-{
-    let mut state = Rebuilt::new(alloc, &problem.pairs, start, vertices)?;
-    for decision in path {
-        state.decide(*decision)?;
-    }
-    Ok(state)
 }
 
 /// Finishes a new node: the groups of its state are tried as the incumbent, and then it is bounded.

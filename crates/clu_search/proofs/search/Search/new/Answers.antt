@@ -10,15 +10,15 @@ use Rattle.clu_search.specs.declared.search.Search.{Search}
 use Rattle.clu_search.proofs.Searching.{first_search, none_made, root_of, state_for}
 use Rattle.clu_search.proofs.search.Search.new.Goals as goal
 
-pub rebuilt-requires-clause-valid : goal.rebuilt-requires-clause-valid
-rebuilt-requires-clause-valid c = state_for c.args.problem.now _ c.args.start.now c.n.result c.problem.view_is c.problem.invariant
+pub new-states-requires-clause-valid : goal.new-states-requires-clause-valid
+new-states-requires-clause-valid c = state_for c.args.problem.now _ c.args.start.now c.n.result c.problem.view_is c.problem.invariant
     c.in_ok-incumbent.ensures.closed c.n.ensures.value c.n.ensures.small c.requires
 
 pub returns-clause-search : goal.returns-clause-search
 returns-clause-search c =
     let problem = c.args.problem.now in
     let start = c.args.start.now in
-    let s : Search = record { problem = c.args.problem; start = c.args.start; vertices = c.in_ok-vertices.vertices; tree = c.in_ok-tree.tree; incumbent = c.fresh.new.best; scratch = c.fresh.new.scratch } in
+    let s : Search = record { problem = c.args.problem; start = c.args.start; states = c.in_ok-states.states; tree = c.in_ok-tree.tree; incumbent = c.fresh.new.best; scratch = c.fresh.new.scratch } in
     let pairs : c.problem.inside.pairs ≡ problem.pairs = ap (λ (p : Posed). p.pairs) c.problem.view_is in
     let size : c.n.result ≡ problem.pairs.n = c.n.ensures.value ∙ ap (λ (t : Pairs). t.n) pairs in
     let vertices : c.in_ok-vertices.vertices ≡ below problem.pairs.n = c.in_ok-vertices.ensures ∙ ap below size in
@@ -29,15 +29,15 @@ returns-clause-search c =
     (let size = c.n-2.ensures.value in let same = ap (λ (t : Pairs). t.n) pairs in let first = c.in_ok-scratch.ensures in let last = c.in_ok-root.ensures.room in
     omega (arith, size, same, first, last)) in
     let known : IsIncumbent problem.pairs start c.fresh.new.best =
-    subst (λ (t : State). IsIncumbent t.pairs t.start c.fresh.new.best) c.in_ok-state.ensures c.in_ok-root.ensures.known in
+    subst (λ (t : State). IsIncumbent t.pairs t.start c.fresh.new.best) c.in_ok-states.ensures.root c.in_ok-root.ensures.known in
     first_search s c.in_ok-root.root (to_z w128 (of_z w128 c.fresh.new.best.value)) (subst IsPosed c.problem.view_is c.problem.invariant)
     (state_for problem _ start c.n.result c.problem.view_is c.problem.invariant c.in_ok-incumbent.ensures.closed c.n.ensures.value c.n.ensures.small c.requires)
-    vertices root floor room known c.in_ok-root.ensures.settled
+    c.in_ok-states.ensures root floor room known c.in_ok-root.ensures.settled
 
 pub returns-clause-unbranched : goal.returns-clause-unbranched
 returns-clause-unbranched c =
     let problem = c.args.problem.now in
-    let s : Search = record { problem = c.args.problem; start = c.args.start; vertices = c.in_ok-vertices.vertices; tree = c.in_ok-tree.tree; incumbent = c.fresh.new.best; scratch = c.fresh.new.scratch } in
+    let s : Search = record { problem = c.args.problem; start = c.args.start; states = c.in_ok-states.states; tree = c.in_ok-tree.tree; incumbent = c.fresh.new.best; scratch = c.fresh.new.scratch } in
     let pairs : c.problem.inside.pairs ≡ problem.pairs = ap (λ (p : Posed). p.pairs) c.problem.view_is in
     let size : c.n.result ≡ problem.pairs.n = c.n.ensures.value ∙ ap (λ (t : Pairs). t.n) pairs in
     let vertices : c.in_ok-vertices.vertices ≡ below problem.pairs.n = c.in_ok-vertices.ensures ∙ ap below size in
