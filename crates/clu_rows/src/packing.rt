@@ -183,10 +183,9 @@ impl Packing {
         ensures step { OnOk result (StepsTo (S.state state.now) groups.now self.old self.new) }
         ensures settled { OnOk result (Settled (S.state state.now) groups.now self.new.left i j k) }
     {
-        if are_alike(
-            self.left.get(Place(i), Place(k)),
-            self.left.get(Place(j), Place(k)),
-        ) {
+        let first = self.left.get(Place(i), Place(k));
+        let second = self.left.get(Place(j), Place(k));
+        if are_alike(first, second) {
             return Ok(());
         }
         self.visit(state, groups, i, j, k)
