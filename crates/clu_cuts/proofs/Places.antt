@@ -1,11 +1,12 @@
 -- Where a group's least vertex stands in the list of all, and the table that is filled by places.
-use Rattle.std.proofs.Common.{◌≡◌, ◌≢◌, ◌⊎◌, inl, inr, ⊎_elim, ℕ, ◌+◌, ◌*◌, ◌<◌, ◌≤◌, min, max, ℤ, pos, List, [], ◌∷◌, length, get_or, drop, slice_index, Bool, true, false, cond, Result, Ok, Err, All, Contains, sym, ap, ◌∙◌, subst, arith}
+use Rattle.std.proofs.Common.{◌≡◌, ◌≢◌, ◌⊎◌, inl, inr, ⊎_elim, ℕ, ◌+◌, ◌<◌, ◌≤◌, min, max, ℤ, pos, List, [], ◌∷◌, length, get_or, drop, slice_index, Bool, true, false, cond, Result, Ok, Err, All, Contains, sym, ap, ◌∙◌, subst, arith}
 use Rattle.std.proofs.lemmas.List.{drop_more}
 use Rattle.std.proofs.lemmas.List.Sorted.{searched}
 use Rattle.std.proofs.lemmas.Grind.{get_or_default_zero}
 use Rattle.std.proofs.lemmas.Bool.{cases_eq, cases_lt}
 use Rattle.std.proofs.Common.{nat_cmp}
 use Rattle.std.specs.List.Sorted.{IsBinarySearchResult}
+use Rattle.clu_partition.specs.Grids.{IsGrid}
 use Rattle.clu_partition.specs.Pairs.{Pairs, weight_of, with_weight}
 use Rattle.clu_partition.proofs.TableLaws.{set_same, set_other, weight_sym}
 use Rattle.clu_partition.proofs.PairLaws.{is_pair, not_pair}
@@ -36,10 +37,10 @@ abbrev pub Apart : List ℕ → Type 0
 Apart groups = (i j : ℕ) → i < length groups → j < length groups → slice_index groups i ≡ slice_index groups j → i ≡ j
 
 pub filled : (groups : List ℕ) (t : Pairs) (i j : ℕ) (p : ℕ × ℕ) (x : ℤ) (pairs : List (ℕ × ℕ)) (xs : List ℤ) → Apart groups → t.n ≡ length groups
-    → length t.weights ≡ t.n * t.n → i < length groups → j < length groups → p.0 ≢ p.1 → slice_index groups i ≡ p.0 → slice_index groups j ≡ p.1
+    → IsGrid t → i < length groups → j < length groups → p.0 ≢ p.1 → slice_index groups i ≡ p.0 → slice_index groups j ≡ p.1
     → ((a b : ℕ) → a < length groups → b < length groups → weight_of t a b ≡ listed pairs xs (slice_index groups a) (slice_index groups b))
     → (a b : ℕ) → a < length groups → b < length groups → weight_of (with_weight t i j x) a b ≡ listed (p ∷ pairs) (x ∷ xs) (slice_index groups a) (slice_index groups b)
-filled groups t i j p x pairs xs once n size li lj differ ei ej old a b la lb = ⊎_elim
+filled groups t i j p x pairs xs once n is li lj differ ei ej old a b la lb = ⊎_elim
     (λ (e : (a ≡ i) × (b ≡ j)). subst (λ a. weight_of (with_weight t i j x) a b ≡ listed (p ∷ pairs) (x ∷ xs) (slice_index groups a) (slice_index groups b)) (sym e.0)
     (subst (λ b. weight_of (with_weight t i j x) i b ≡ listed (p ∷ pairs) (x ∷ xs) (slice_index groups i) (slice_index groups b)) (sym e.1)
     (here i j x ij li' lj' ∙ sym (taken (slice_index groups i) (slice_index groups j) (inl (sym ei, sym ej))))))
@@ -65,7 +66,7 @@ filled groups t i j p x pairs xs once n size li lj differ ei ej old a b la lb = 
     ij e = differ (sym ei ∙ ap (slice_index groups) e ∙ ej)
 
     here : (i j : ℕ) (x : ℤ) → i ≢ j → i < t.n → j < t.n → weight_of (with_weight t i j x) i j ≡ x
-    here i j x d p q = set_same t i j x p q d size
+    here i j x d p q = set_same t i j x p q d is
 
     taken : (u v : ℕ) → (p.0 ≡ u) × (p.1 ≡ v) ⊎ (p.0 ≡ v) × (p.1 ≡ u) → listed (p ∷ pairs) (x ∷ xs) u v ≡ x
     taken u v h = ap (λ t. cond t x (listed pairs xs u v)) (is_pair p.0 p.1 u v h)
@@ -133,13 +134,13 @@ rise_apart groups up i j li lj e = ⊎_elim
 
 -- one more pair, by its place in the list
 pub more_filled : (groups : List ℕ) (t new : Pairs) (i j k : ℕ) (d : ℕ × ℕ) (x y : ℤ) (pairs : List (ℕ × ℕ)) (xs : List ℤ) → Apart groups → t.n ≡ length groups
-    → length t.weights ≡ t.n * t.n → i < length groups → j < length groups → InGroups groups (get_or pairs k d) → slice_index groups i ≡ (get_or pairs k d).0
+    → IsGrid t → i < length groups → j < length groups → InGroups groups (get_or pairs k d) → slice_index groups i ≡ (get_or pairs k d).0
     → slice_index groups j ≡ (get_or pairs k d).1 → k < length pairs → k < length xs → y ≡ get_or xs k x → new ≡ with_weight t i j y
     → ((a b : ℕ) → a < length groups → b < length groups → weight_of t a b ≡ listed (drop (k + 1) pairs) (drop (k + 1) xs) (slice_index groups a) (slice_index groups b))
     → (a b : ℕ) → a < length groups → b < length groups → weight_of new a b ≡ listed (drop k pairs) (drop k xs) (slice_index groups a) (slice_index groups b)
-more_filled groups t new i j k d x y pairs xs once n size li lj both ei ej lp lx ey e old a b la lb =
+more_filled groups t new i j k d x y pairs xs once n is li lj both ei ej lp lx ey e old a b la lb =
     ap (λ (t : Pairs). weight_of t a b) e
-    ∙ filled groups t i j (get_or pairs k d) y (drop (k + 1) pairs) (drop (k + 1) xs) once n size li lj both.differ ei ej old a b la lb
+    ∙ filled groups t i j (get_or pairs k d) y (drop (k + 1) pairs) (drop (k + 1) xs) once n is li lj both.differ ei ej old a b la lb
     ∙ ap (λ z. listed (get_or pairs k d ∷ drop (k + 1) pairs) (z ∷ drop (k + 1) xs) (slice_index groups a) (slice_index groups b)) ey
     ∙ ap (λ ps. listed ps (get_or xs k x ∷ drop (k + 1) xs) (slice_index groups a) (slice_index groups b)) (sym (drop_more pairs k d lp))
     ∙ ap (λ zs. listed (drop k pairs) zs (slice_index groups a) (slice_index groups b)) (sym (drop_more xs k x lx))

@@ -7,7 +7,7 @@ ghost use Rattle.clu_cuts.specs.Point.{IsPoint, share};
 ghost use Rattle.clu_cuts.specs.Shares.{AreShares, IsTableOf};
 
 use crate::point::Point;
-use clu_partition::{Residual, Vertex};
+use clu_partition::{Place, Residual, Vertex};
 use clu_state::Situation;
 use std::alloc::{AllocError, Global};
 
@@ -56,7 +56,7 @@ impl<'a> Shares<'a> {
     {
         // for the prover: the groups are those of the table
         let _groups = self.groups;
-        self.table.get(i, j)
+        self.table.get(Place(i), Place(j))
     }
 }
 
@@ -85,7 +85,7 @@ fn table_of<S: Situation>(
 }
 
 /// The place of a group's least vertex in their list, which rises.
-fn place_in(groups: &[Vertex], v: Vertex) -> usize
+fn place_in(groups: &[Vertex], v: Vertex) -> Place
     requires rising { (i j : ℕ) → i < j → j < length groups.now
         → slice_index groups.now i < slice_index groups.now j }
     requires listed { Contains groups.now v }
@@ -93,7 +93,7 @@ fn place_in(groups: &[Vertex], v: Vertex) -> usize
     ensures at { slice_index groups.now result ≡ v }
 {
     match groups.binary_search_by_key(&v.0, |m| m.0) {
-        Ok(i) => i,
+        Ok(i) => Place(i),
         Err(_) => unreachable!(),
     }
 }

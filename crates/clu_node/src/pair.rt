@@ -1,7 +1,7 @@
 //! The pair of groups on which a node would be split: of the free pairs the heaviest one, so that both decisions change the bound
 //! most. One walk over the pairs of groups finds it, and no list of them is made.
-ghost use Rattle.std.specs.Prelude.{◌≡◌, ◌≢◌, ℕ, [], ◌∷◌, All, Contains, IfOk, IfSome, Some};
-ghost use Rattle.clu_state.specs.State.{State, leader, free_pairs, free_with};
+ghost use Rattle.std.specs.Prelude.{◌≡◌, ◌≢◌, ℕ, [], ◌∷◌, Contains, IfOk, IfSome, Some};
+ghost use Rattle.clu_state.specs.State.{State, AreLater, leader, free_pairs, free_with};
 ghost use Rattle.clu_node.specs.Node.{HasPair, IsHeaviest, size_of};
 ghost use Rattle.clu_node.specs.Heavier.{IsSized, heavier, heaviest_of};
 
@@ -41,10 +41,7 @@ struct Candidate {
 impl Candidate {
     /// Visits the pairs of a group with later ones.
     fn visit_with<S: Situation>(&mut self, state: &S, a: Vertex, later: &[Vertex])
-        requires first { Contains (S.state state.now).members a }
-        requires members { All (Contains (S.state state.now).members) later.now }
-        requires differ { All (λ b. leader (S.state state.now) a
-            ≢ leader (S.state state.now) b) later.now }
+        requires later { AreLater (S.state state.now) a later.now }
         requires sized { IsSized (S.state state.now) self.old.pair self.old.size }
         ensures sized { IsSized (S.state state.now) self.new.pair self.new.size }
         ensures pair { self.new.pair ≡ heaviest_of (S.state state.now) self.old.pair

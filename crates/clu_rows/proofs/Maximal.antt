@@ -4,6 +4,7 @@ use Rattle.std.proofs.lemmas.Int.{ints}
 use Rattle.std.proofs.lemmas.Bool.{cases_eq, true≢false, false≢true}
 use Rattle.std.proofs.lemmas.Grind.{get_or_default_zero}
 use Rattle.clu_partition.specs.Sums.{only_if}
+use Rattle.clu_partition.specs.Grids.{IsGrid}
 use Rattle.clu_rows.specs.Rows.{TwoSet}
 use Rattle.clu_partition.specs.Pairs.{Pairs, weight_of, with_weight}
 use Rattle.clu_partition.proofs.SumLaws.{Among}
@@ -12,7 +13,6 @@ use Rattle.clu_partition.proofs.Regroup.{between_sym}
 use Rattle.clu_state.specs.State.{State, IsState, leader, are_apart, kept_apart, group_leaders, group_weight}
 use Rattle.clu_state.proofs.Bridge.{leader_among, contains_from}
 use Rattle.clu_partition.proofs.JoinLaws.{joins_turn}
-use Rattle.std.proofs.Common.{◌*◌, length-set}
 use Rattle.clu_rows.specs.Packing.{CanApply, IsMaximal}
 use Rattle.clu_rows.specs.Packing.IsPacking.{nothing}
 use Rattle.clu_rows.specs.Table.{Packed, Stuck, Settled}
@@ -94,7 +94,7 @@ first_table s groups left i e n h = record {
     less_nothing w = omega (arith, ints)
 
 -- ---- filling the table
-pub row_more : (s : State) (groups : List ℕ) (start old new : Pairs) (i j : ℕ) (w : ℤ) (f : ℕ → ℕ → ℤ) → length groups ≤ old.n → length old.weights ≡ old.n * old.n → i < j → j < length groups →
+pub row_more : (s : State) (groups : List ℕ) (start old new : Pairs) (i j : ℕ) (w : ℤ) (f : ℕ → ℕ → ℤ) → length groups ≤ old.n → IsGrid old → i < j → j < length groups →
     new ≡ with_weight old i j w → w ≡ f i j → ((z : ℕ) → i < z → z < j → weight_of old i z ≡ f i z) → (z : ℕ) → i < z → z < j + 1 → weight_of new i z ≡ f i z
 row_more s groups start old new i j w f n p ij jl e v h z iz zj = subst (λ (t : Pairs). weight_of t i z ≡ f i z) (sym e) (⊎_elim
     (λ q. subst (λ z. weight_of (with_weight old i j w) i z ≡ f i z) (sym q) (set_same old i j w (omega (arith, n)) (omega (arith, n)) (λ r. omega (arith, r, ij)) p ∙ v))
@@ -103,9 +103,6 @@ row_more s groups start old new i j w f n p ij jl e v h z iz zj = subst (λ (t :
 
 pub row_others : (old new : Pairs) (n i j x z : ℕ) (w : ℤ) → n ≤ old.n → i < j → j < n → x < i → x < z → z < n → new ≡ with_weight old i j w → weight_of new x z ≡ weight_of old x z
 row_others old new n i j x z w e ij jn xi xz zn f = subst (λ (t : Pairs). weight_of t x z ≡ weight_of old x z) (sym f) (set_other old i j x z w (omega (arith, e)) (omega (arith, e)) (omega (arith, e)) (omega (arith, e)) (λ k. let a = k.0 in let b = k.1 in omega (arith, a, b, ij, xi, xz)))
-
-pub row_places : (old new : Pairs) (i j : ℕ) (w : ℤ) → length old.weights ≡ old.n * old.n → new ≡ with_weight old i j w → length new.weights ≡ new.n * new.n
-row_places old new i j w e f = subst (λ (t : Pairs). length t.weights ≡ t.n * t.n) (sym f) (length-set {A = ℤ} old.weights _ _ ∙ e)
 
 pub unwrapped : (b apart : Bool) (r v w w' : ℤ) → b ≡ apart → r ≡ only_if (not b) w' → w' ≡ v → v ≡ w → r ≡ only_if (not apart) w
 unwrapped b apart r v w w' e f g h = f ∙ ap (λ k. only_if (not k) w') e ∙ ap (only_if (not apart)) (g ∙ h)

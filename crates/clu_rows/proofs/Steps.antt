@@ -1,8 +1,10 @@
 -- A step of the packing.
-use Rattle.std.proofs.Common.{◌≡◌, ◌≢◌, ◌⊎◌, inl, inr, ⊎_elim, ℕ, ◌<◌, ◌*◌, ℤ, pos, neg_ℤ, ◌+ℤ◌, ◌-ℤ◌, ◌≤ℤ◌, ◌<ℤ◌, List, length, slice_index, min, max, refl, sym, ◌∙◌, subst, arith, length-set}
+use Rattle.std.proofs.Common.{◌≡◌, ◌≢◌, ◌⊎◌, inl, inr, ⊎_elim, ℕ, ◌<◌, ℤ, pos, neg_ℤ, ◌+ℤ◌, ◌-ℤ◌, ◌≤ℤ◌, ◌<ℤ◌, List, slice_index, min, max, refl, sym, ◌∙◌, subst, arith}
 use Rattle.std.proofs.lemmas.Int.{ints}
 use Rattle.std.proofs.lemmas.Bool.{cases_eq}
+use Rattle.clu_partition.specs.Grids.{IsGrid}
 use Rattle.clu_partition.specs.Pairs.{Pairs, weight_of, with_weight}
+use Rattle.clu_partition.proofs.GridLaws.{grid_set}
 use Rattle.clu_partition.proofs.TableLaws.{set_same, set_other, weight_sym}
 use Rattle.clu_state.specs.State.{State, leader, kept_apart}
 use Rattle.clu_partition.proofs.JoinLaws.{joins_turn}
@@ -121,18 +123,15 @@ differ_pair a b c p q r = (
   (λ h. let x = h.0 in let y = h.1 in omega (arith, p, q, r, x, y)),
 )
 
-length_set_is : (t : Pairs) (u v : ℕ) (w : ℤ) → length t.weights ≡ t.n * t.n → length (with_weight t u v w).weights ≡ (with_weight t u v w).n * (with_weight t u v w).n
-length_set_is t u v w e = length-set {A = ℤ} t.weights _ _ ∙ e
-
-pub changed_by : (old new : Pairs) (a b c : ℕ) (y d p q r : ℤ) → length old.weights ≡ old.n * old.n → a < old.n → b < old.n → c < old.n → a ≢ b → a ≢ c → b ≢ c →
+pub changed_by : (old new : Pairs) (a b c : ℕ) (y d p q r : ℤ) → IsGrid old → a < old.n → b < old.n → c < old.n → a ≢ b → a ≢ c → b ≢ c →
     p ≡ weight_of old a b -ℤ y → q ≡ weight_of old a c -ℤ y → r ≡ weight_of old b c +ℤ d →
     new ≡ with_weight (with_weight (with_weight old a b p) a c q) b c r → Changed old new a b c y d
 changed_by old new a b c y d p q r l i j k ab ac bc e f g h =
     let z = differ_pair a b c ab ac bc in
     let t = with_weight old a b p in
     let u = with_weight t a c q in
-    let lt = length_set_is old a b p l in
-    let lu = length_set_is t a c q lt in
+    let lt = grid_set old a b p l in
+    let lu = grid_set t a c q lt in
     subst (λ n. Changed old n a b c y d) (sym h) (record {
       size = refl;
       first = set_other u b c a b r j k i j z.4 ∙ set_other t a c a b q i k i j z.3 ∙ set_same old a b p i j ab l ∙ e;

@@ -87,7 +87,7 @@ fn uncovered<S: Situation>(state: &S, den: u64, prices: &Residual, a: Vertex, b:
     if state.is_apart(a, b) {
         return 0;
     }
-    let left = den as i128 * state.weight(a, b) - prices.get(a.0 as usize, b.0 as usize);
+    let left = den as i128 * state.weight(a, b) - prices.get(a.place(), b.place());
     positive_part(left)
 }
 

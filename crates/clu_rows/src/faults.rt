@@ -1,14 +1,14 @@
 //! The faults of a leaf's rows: each names members of different groups, and the rows' worth together stays below a limit.
 //! The limit keeps each sum of the bound in 128 bits, so that nothing has to be tested while it is taken.
 
-ghost use Rattle.std.specs.Prelude.{◌≡◌, ◌≢◌, ◌↔◌, ◌<◌, ◌≤◌, ◌+◌, ◌*◌, ◌^◌, ◌++◌, ℕ, List, All, Contains, IsTrue, IfSome, IsNone, length, slice_index};
+ghost use Rattle.std.specs.Prelude.{◌≡◌, ◌≢◌, ◌↔◌, ◌<◌, ◌≤◌, ◌+◌, ◌*◌, ◌^◌, ◌++◌, ℕ, List, All, Contains, IsTrue, IfSome, IsNone, length};
 ghost use Rattle.clu_state.specs.State.{IsState, leader};
 ghost use Rattle.clu_partition.specs.Groups.{NamesOnce};
 ghost use Rattle.clu_rows.specs.Faults.{IsRow, AreRows, IsFirstFault};
 
 use crate::row::Row;
 use crate::rows::Rows;
-use clu_partition::{Vertex, is_member};
+use clu_partition::Vertex;
 use clu_state::Situation;
 
 /// The largest worth of a leaf's rows: the sum of the multipliers times the squares of the rows'
@@ -30,13 +30,12 @@ pub fn first_fault<S: Situation>(state: &S, rows: &Rows) -> Option<u64>
     None
 }
 
-fn are_members(members: &[Vertex], list: &[Vertex]) -> bool
-    requires rising { (i j : ℕ) → i < j → j < length members.now
-        → slice_index members.now i < slice_index members.now j }
-    ensures { IsTrue result ↔ All (Contains members.now) list.now }
+/// Whether each vertex of the list is a member.
+fn are_members<S: Situation>(state: &S, list: &[Vertex]) -> bool
+    ensures { IsTrue result ↔ All (Contains (S.state state.now).members) list.now }
 {
     for v in list {
-        if !is_member(members, *v) {
+        if !state.has_member(*v) {
             return false;
         }
     }
@@ -92,15 +91,14 @@ fn is_row<S: Situation>(state: &S, row: &Row) -> bool
     ensures fits { IsTrue result ↔ IsRow (S.state state.now) row.now }
     ensures few { IsTrue result → length row.now.s + length row.now.t ≤ 1000 }
 {
-    let members = state.members();
-    if !has_shape(row, members.len()) {
+    if !has_shape(row, state.members().len()) {
         return false;
     }
     let (s, t) = (row.s, row.t);
-    if !are_members(members, s) {
+    if !are_members(state, s) {
         return false;
     }
-    if !are_members(members, t) {
+    if !are_members(state, t) {
         return false;
     }
     if !names_differ(state, t, &[]) {

@@ -6,7 +6,7 @@ ghost use Rattle.clu_partition.specs.Sums.{only_if};
 ghost use Rattle.clu_state.specs.State.{IsState, are_apart, group_leaders, group_weight};
 ghost use Rattle.clu_rows.specs.Table.{Packed};
 
-use clu_partition::{Residual, Vertex};
+use clu_partition::{Place, Residual, Vertex};
 use clu_state::Situation;
 
 /// Writes the weights of all free pairs.
@@ -36,9 +36,8 @@ fn fill_row<S: Situation>(state: &S, groups: &[Vertex], left: &mut Residual, i: 
     ensures others { (x z : ℕ) → x < i → x < z → z < length groups.now
         → weight_of left.new x z ≡ weight_of left.old x z }
 {
-    let _n = left.n();
     for j in i + 1..groups.len() {
-        left.set(i, j, free_weight(state, groups, i, j));
+        left.set(Place(i), Place(j), free_weight(state, groups, i, j));
     }
 }
 

@@ -3,7 +3,7 @@
 ghost use Rattle.std.specs.Prelude.{◌≡◌, ◌+◌, ◌++◌, ◌∷◌, [], ◌<◌, ◌≤◌, ◌<ℤ◌, ◌≤ℤ◌, OnOk, ℕ, pos, length};
 ghost use Rattle.clu_rows.specs.Table.{AreNearBelow, AreAllNear, HasList, near_at};
 
-use clu_partition::Residual;
+use clu_partition::{Place, Residual};
 use std::alloc::{AllocError, Global};
 
 /// A list of places for each group, one behind the other.
@@ -53,7 +53,7 @@ impl NearLists {
         ensures { OnOk result (AreNearBelow left.now count (i + 1) self.new) }
     {
         for z in i + 1..count {
-            push_above(&mut self.places, left.get(i, z), z)?;
+            push_above(&mut self.places, left.get(Place(i), Place(z)), z)?;
         }
         self.bounds.push(self.places.len())?;
         Ok(())

@@ -17,7 +17,7 @@ use crate::near::NearLists;
 use crate::packing::Packing;
 use crate::row::Leaf;
 use crate::rows::Rows;
-use clu_partition::{Residual, Vertex, pair_sum};
+use clu_partition::{Place, Residual, Vertex, pair_sum};
 use clu_state::Situation;
 use std::alloc::{AllocError, Global};
 use std::marker::Model;
@@ -122,6 +122,6 @@ fn above_zero(left: &Residual, i: u32, j: u32) -> i128
     requires j { j < left.now.n }
     ensures { result ≡ pos (positive (weight_of left.now i j)) }
 {
-    let left = left.get(i as usize, j as usize);
+    let left = left.get(Place(i as usize), Place(j as usize));
     if left > 0 { left } else { 0 }
 }

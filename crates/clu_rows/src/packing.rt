@@ -9,7 +9,7 @@ ghost use Rattle.clu_rows.specs.Table.{Packed, HasPacked, SameRoom, StepsTo, Cha
 
 use crate::near::NearLists;
 use crate::rows::Rows;
-use clu_partition::{Residual, Vertex};
+use clu_partition::{Place, Residual, Vertex};
 use clu_state::Situation;
 use std::alloc::AllocError;
 
@@ -82,7 +82,7 @@ impl Packing {
         ensures settled { OnOk result ((z : ℕ) → j < z → z < length groups.now
             → Settled (S.state state.now) groups.now self.new.left i j z) }
     {
-        if self.left.get(i, j) > 0 {
+        if self.left.get(Place(i), Place(j)) > 0 {
             self.visit_each_third(state, groups, i, j)?;
         } else {
             self.visit_near_thirds(state, groups, near, i, j)?;
@@ -135,7 +135,7 @@ impl Packing {
         ensures step { OnOk result (StepsTo (S.state state.now) groups.now self.old self.new) }
         ensures settled { OnOk result (Settled (S.state state.now) groups.now self.new.left i j k) }
     {
-        if self.left.get(i, k) <= 0 {
+        if self.left.get(Place(i), Place(k)) <= 0 {
             return Ok(());
         }
         self.visit(state, groups, i, j, k)
@@ -183,7 +183,9 @@ impl Packing {
         ensures step { OnOk result (StepsTo (S.state state.now) groups.now self.old self.new) }
         ensures settled { OnOk result (Settled (S.state state.now) groups.now self.new.left i j k) }
     {
-        if are_alike(self.left.get(i, k), self.left.get(j, k)) {
+        let first = self.left.get(Place(i), Place(k));
+        let second = self.left.get(Place(j), Place(k));
+        if are_alike(first, second) {
             return Ok(());
         }
         self.visit(state, groups, i, j, k)
@@ -208,13 +210,13 @@ impl Packing {
         ensures step { OnOk result (StepsTo (S.state state.now) groups.now self.old self.new) }
         ensures settled { OnOk result (Settled (S.state state.now) groups.now self.new.left i j k) }
     {
-        if self.left.get(j, k) <= 0 {
+        if self.left.get(Place(j), Place(k)) <= 0 {
             return self.try_triangle(state, groups, i, j, k);
         }
-        if self.left.get(i, k) <= 0 {
+        if self.left.get(Place(i), Place(k)) <= 0 {
             return self.try_triangle(state, groups, j, i, k);
         }
-        if self.left.get(i, j) <= 0 {
+        if self.left.get(Place(i), Place(j)) <= 0 {
             return self.try_triangle(state, groups, k, i, j);
         }
         Ok(())
@@ -241,20 +243,20 @@ impl Packing {
         ensures step { OnOk result (StepsTo (S.state state.now) groups.now self.old self.new) }
         ensures settled { OnOk result (Settled (S.state state.now) groups.now self.new.left a b c) }
     {
-        let first = self.left.get(a, b);
-        let second = self.left.get(a, c);
+        let first = self.left.get(Place(a), Place(b));
+        let second = self.left.get(Place(a), Place(c));
         if first <= 0 || second <= 0 {
             return Ok(());
         }
         if !opposes(state, groups, &self.left, b, c) {
             return Ok(());
         }
-        let third = self.left.get(b, c);
+        let third = self.left.get(Place(b), Place(c));
         let y = multiplier(first, second, third);
         self.rows
             .push(&[groups[a]], &[groups[b], groups[c]], y as u128)?;
         let rise = rise_of(third, y);
-        lower(&mut self.left, a, b, c, y, rise);
+        lower(&mut self.left, Place(a), Place(b), Place(c), y, rise);
         Ok(())
     }
 }
@@ -268,7 +270,7 @@ fn opposes<S: Situation>(state: &S, groups: &[Vertex], left: &Residual, b: usize
     ensures { IsTrue result ↔ ((are_apart (S.state state.now) (slice_index groups.now b)
         (slice_index groups.now c) ≡ true) ⊎ (weight_of left.now b c <ℤ pos 0)) }
 {
-    left.get(b, c) < 0 || state.is_apart(groups[b], groups[c])
+    left.get(Place(b), Place(c)) < 0 || state.is_apart(groups[b], groups[c])
 }
 
 /// The multiplier of a triangle at whose pairs this is left.
@@ -299,7 +301,7 @@ fn rise_of(third: i128, y: i128) -> i128
 }
 
 /// Takes y from the two pairs of a, and gives rise to the third.
-fn lower(left: &mut Residual, a: usize, b: usize, c: usize, y: i128, rise: i128)
+fn lower(left: &mut Residual, a: Place, b: Place, c: Place, y: i128, rise: i128)
     requires a { a < left.old.n }
     requires b { b < left.old.n }
     requires c { c < left.old.n }
@@ -312,7 +314,6 @@ fn lower(left: &mut Residual, a: usize, b: usize, c: usize, y: i128, rise: i128)
     requires third { (rise ≡ pos 0) ⊎ ((pos 0 ≤ℤ rise) × (weight_of left.old b c ≤ℤ neg_ℤ rise)) }
     ensures { Changed left.old left.new a b c y rise }
 {
-    let _n = left.n();
     let first = left.get(a, b) - y;
     let second = left.get(a, c) - y;
     let third = left.get(b, c) + rise;

@@ -40,10 +40,9 @@ fn add_pair(scratch: &mut Residual, a: Vertex, b: Vertex, k: i128)
     ensures sums { (x z : ℕ) → x < scratch.old.n → z < scratch.old.n → x ≢ z
         → weight_of scratch.new x z ≡ weight_of scratch.old x z +ℤ only_if (are_pair a b x z) k }
 {
-    let _n = scratch.n();
-    let (u, v) = (a.0 as usize, b.0 as usize);
-    let sum = scratch.get(u, v) + k;
-    scratch.set(u, v, sum);
+    let (p, q) = (a.place(), b.place());
+    let sum = scratch.get(p, q) + k;
+    scratch.set(p, q, sum);
 }
 
 /// Adds k to the number of the group of v and that of each of the others.
@@ -148,11 +147,10 @@ fn clear_row(scratch: &mut Residual, members: &[Vertex], i: usize)
     ensures kept { (x z : ℕ) → x < scratch.old.n → z < scratch.old.n → weight_of scratch.old x z ≡ pos 0
         → weight_of scratch.new x z ≡ pos 0 }
 {
-    let _n = scratch.n();
     let u = members[i];
     for j in i + 1..members.len() {
         let v = members[j];
-        scratch.set(u.0 as usize, v.0 as usize, 0);
+        scratch.set(u.place(), v.place(), 0);
     }
 }
 

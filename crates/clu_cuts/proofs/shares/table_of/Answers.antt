@@ -51,7 +51,7 @@ loop-k-preserved g c =
     record {
       size = ap (λ (t : Pairs). t.n) c.set.ensures.changed ∙ c.loop-k.invariant.size;
       left = more_filled c.args.groups.now c.loop-k.table c.set.new.self c.place_in-i.result c.place_in-j.result (c.loop-k.k - 1) c.index-pairs-k.result (pos 0) _ c.as_slice-pairs.result.now c.as_slice-x.result.now
-          (rise_apart c.args.groups.now (groups_rise _ c.args.groups.now c.requires.valid c.requires.leaders)) c.loop-k.invariant.size c.set.ensures.places c.place_in-i.ensures.within c.place_in-j.ensures.within both
+          (rise_apart c.args.groups.now (groups_rise _ c.args.groups.now c.requires.valid c.requires.leaders)) c.loop-k.invariant.size c.set.ensures.grid c.place_in-i.ensures.within c.place_in-j.ensures.within both
           c.place_in-i.ensures.at (c.place_in-j.ensures.at ∙ ap (λ (p : ℕ × ℕ). p.1) turn) lp lx y c.set.ensures.changed
           (subst (λ m. (a b : ℕ) → a < length c.args.groups.now → b < length c.args.groups.now → weight_of c.loop-k.table a b ≡ listed (drop m c.as_slice-pairs.result.now) (drop m c.as_slice-x.result.now) (slice_index c.args.groups.now a) (slice_index c.args.groups.now b))
           (sym back) c.loop-k.invariant.left);

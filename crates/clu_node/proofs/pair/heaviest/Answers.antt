@@ -1,32 +1,15 @@
-use Rattle.std.proofs.Common.{◌≢◌, ◌+◌, None, Contains, All, subst, sym, ◌∙◌}
-use Rattle.std.proofs.lemmas.Grind.{get_or_default_zero}
+use Rattle.std.proofs.Common.{◌+◌, None, ◌∙◌}
 use Rattle.clu_partition.proofs.ListLaws.{tail_is}
-use Rattle.clu_state.specs.State.{leader, free_of}
-use Rattle.clu_state.proofs.FreePairs.{leads_at, later_all}
+use Rattle.clu_state.specs.State.{free_of}
+use Rattle.clu_state.proofs.FreePairs.{with_later}
 use Rattle.clu_node.specs.Heavier.{heaviest_of}
 use Rattle.clu_node.proofs.Heaviest.{next_group, all_visited, has_pair, is_heaviest, none_found}
 use Rattle.clu_node.proofs.pair.heaviest.Goals as goal
 
-pub visit_with-requires-clause-first : goal.visit_with-requires-clause-first
-visit_with-requires-clause-first g c =
-    let s = g.S.Situation.state c.args.state.now in
-    let e = c.as_slice-groups.ensures ∙ c.in_ok-leaders.ensures.value in
-    subst (Contains s.members) (sym (c.index-groups-i.is ∙ get_or_default_zero c.as_slice-groups.result.now c.loop-i.i c.index-groups-i.result c.loop-i-test.true))
-    (leads_at s c.as_slice-groups.result.now c.loop-i.i c.in_ok-leaders.ensures.valid e c.loop-i-test.true).member
-
-pub visit_with-requires-clause-members : goal.visit_with-requires-clause-members
-visit_with-requires-clause-members g c =
-    let s = g.S.Situation.state c.args.state.now in
-    let e = c.as_slice-groups.ensures ∙ c.in_ok-leaders.ensures.value in
-    subst (All (Contains s.members)) (sym (tail_is (c.loop-i.i + 1) c.as_slice-groups.result.now))
-    (λ k d n. (later_all s c.as_slice-groups.result.now c.loop-i.i c.index-groups-i.result c.in_ok-leaders.ensures.valid e c.loop-i-test.true c.index-groups-i.is k d n).member)
-
-pub visit_with-requires-clause-differ : goal.visit_with-requires-clause-differ
-visit_with-requires-clause-differ g c =
-    let s = g.S.Situation.state c.args.state.now in
-    let e = c.as_slice-groups.ensures ∙ c.in_ok-leaders.ensures.value in
-    subst (All (λ b. leader s c.index-groups-i.result ≢ leader s b)) (sym (tail_is (c.loop-i.i + 1) c.as_slice-groups.result.now))
-    (λ k d n. (later_all s c.as_slice-groups.result.now c.loop-i.i c.index-groups-i.result c.in_ok-leaders.ensures.valid e c.loop-i-test.true c.index-groups-i.is k d n).differ)
+pub visit_with-requires-clause-later : goal.visit_with-requires-clause-later
+visit_with-requires-clause-later g c =
+    with_later (g.S.Situation.state c.args.state.now) c.as_slice-groups.result.now _ c.loop-i.i c.index-groups-i.result c.in_ok-leaders.ensures.valid (c.as_slice-groups.ensures ∙ c.in_ok-leaders.ensures.value)
+    c.loop-i-test.true c.index-groups-i.is (tail_is (c.loop-i.i + 1) c.as_slice-groups.result.now)
 
 pub loop-i-preserved : goal.loop-i-preserved
 loop-i-preserved g c =
