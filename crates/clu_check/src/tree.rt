@@ -10,7 +10,7 @@ ghost use Rattle.clu_check.specs.Tree.{decision_of, after, CanGo, waiting, base_
 
 use clu_cert::Item;
 use clu_partition::{PairTable, Start, Vertex};
-use clu_reduce::{Step, holds, is_free};
+use clu_reduce::{Step, holds};
 use clu_rows::{Leaf, Residual, leaf_bound};
 use clu_state::{Decision, Rebuilt, Situation};
 use std::alloc::{AllocError, Global};
@@ -273,7 +273,7 @@ impl<'p> Reading<'p> {
         ensures leaf { IsErrOf result ItemFault.Leaf → IsRefused IsBadLeaf self.old (Item.Branch u v) }
         ensures whole { IsErrOf result ItemFault.Whole → opened self.old ≡ [] }
     {
-        if !is_free(&self.state, u, v) {
+        if !self.state.is_free(u, v) {
             return Err(ItemFault::Step);
         }
         self.enter(u, v)?;

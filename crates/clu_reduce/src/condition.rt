@@ -9,7 +9,7 @@ ghost use Rattle.clu_reduce.specs.Conditions.{gain, stake, others, AreTwins, Are
 ghost use Rattle.clu_reduce.specs.Reduction.{Allows, Holds};
 ghost use Rattle.clu_reduce.specs.Tests.{IsThird, cost_of, cost_at, AreAlike, Follows};
 
-use crate::{Kind, Step, is_free};
+use crate::{Kind, Step};
 use clu_partition::Vertex;
 use clu_state::Situation;
 
@@ -17,9 +17,9 @@ use clu_state::Situation;
 pub fn holds<S: Situation>(state: &S, step: &Step) -> bool
     ensures { IsTrue result ↔ Holds (S.state state.now) step.now }
 {
-    // for the prover: the state is a valid one
+    // For the prover: the state is a valid one.
     let _members = state.members();
-    if !is_free(state, step.u, step.v) {
+    if !state.is_free(step.u, step.v) {
         return false;
     }
     allows(
@@ -87,7 +87,7 @@ fn are_light<S: Situation>(state: &S, a: Vertex, b: Vertex) -> bool
     ensures { IsTrue result ↔ IsLight (group_weight (S.state state.now))
         (are_apart (S.state state.now)) (group_leaders (S.state state.now)) a b }
 {
-    // for the prover: the state is a valid one
+    // For the prover: the state is a valid one.
     let _members = state.members();
     let weight = state.weight(a, b);
     weight < 0 && costs_fit(state, Kind::Light, a, b, -weight)

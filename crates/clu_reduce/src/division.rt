@@ -7,7 +7,6 @@ ghost use Rattle.clu_state.specs.State.{State, IsState, IsFree, leader, group_le
 ghost use Rattle.clu_reduce.specs.Components.{IsNear, AreLabels, AreStable, AreTied};
 ghost use Rattle.clu_reduce.specs.Parts.{AreParts};
 
-use crate::is_free;
 use clu_partition::{Seq, Vertex};
 use clu_state::Situation;
 use std::alloc::{AllocError, Global};
@@ -71,8 +70,6 @@ fn labels_of<S: Situation>(alloc: Global, state: &S) -> Result<Vec<Vertex>, Allo
     ensures labels { IfOk result (λ labels. AreLabels (S.state state.now) (slice_index labels.items)) }
     ensures stable { IfOk result (λ labels. AreStable (S.state state.now) (slice_index labels.items)) }
 {
-    // for the prover: the state is a valid one
-    let _members = state.members();
     let groups = state.leaders(alloc)?;
     let mut labels = first_labels(alloc, state)?;
     for i in 0..groups.len() {
@@ -136,7 +133,7 @@ fn tie<S: Situation>(state: &S, labels: &mut Vec<Vertex>, a: Vertex, b: Vertex)
 fn is_near<S: Situation>(state: &S, a: Vertex, b: Vertex) -> bool
     ensures { IsTrue result ↔ IsNear (S.state state.now) a b }
 {
-    if !is_free(state, a, b) {
+    if !state.is_free(a, b) {
         return false;
     }
     state.weight(a, b) > 0

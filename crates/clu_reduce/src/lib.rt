@@ -8,7 +8,6 @@
 
 mod condition;
 mod division;
-mod free;
 mod row;
 mod search;
 mod step;
@@ -16,7 +15,6 @@ mod sweep;
 
 pub use condition::holds;
 pub use division::parts;
-pub use free::is_free;
 pub use search::find;
 pub use step::{Kind, Step};
 pub use sweep::reduce_all;

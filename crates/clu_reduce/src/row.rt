@@ -20,7 +20,7 @@ pub(crate) fn may_reduce<S: Situation>(state: &S, step: &Step, row: i128) -> boo
     requires row { IsRow (S.state state.now) step.now.kind step.now.u row }
     ensures { Reduces (S.state state.now) step.now → IsTrue result }
 {
-    // for the prover: the state is a valid one
+    // For the prover: the state is a valid one.
     let _members = state.members();
     if step.u == step.v {
         return false;

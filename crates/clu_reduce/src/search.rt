@@ -69,7 +69,7 @@ fn find_with<S: Situation>(state: &S, kind: Kind, u: Vertex) -> Option<Step>
 pub(crate) fn reduces<S: Situation>(state: &S, step: &Step) -> bool
     ensures { IsTrue result ↔ Reduces (S.state state.now) step.now }
 {
-    // for the prover: the state is a valid one
+    // For the prover: the state is a valid one.
     let _members = state.members();
     if !holds(state, step) {
         return false;

@@ -24,7 +24,7 @@ pub fn reduce_all<S: Situation>(alloc: Global, state: &mut S) -> Result<Seq<Step
     ensures irreducible { IfOk result (λ _. IsIrreducible (S.state state.new)) }
     ensures refused { IfErr result (λ _. (steps : List Step) × Lead (S.state state.old) steps (S.state state.new)) }
 {
-    // for the prover: the state is a valid one
+    // For the prover: the state is a valid one.
     let _members = state.members();
     let mut steps = Seq::new(alloc);
     sweep_all(state, &mut steps)?;
@@ -49,7 +49,7 @@ fn sweep<S: Situation>(state: &mut S, steps: &mut Seq<Step>) -> Result<bool, All
     ensures refused { IfErr result (λ _. (s : State) → Lead s steps.old (S.state state.old)
         → (taken : List Step) × Lead s taken (S.state state.new)) }
 {
-    // for the prover: the state is a valid one
+    // For the prover: the state is a valid one.
     let _members = state.members();
     let twins = sweep_kind(state, steps, Kind::Twin)?;
     let pairs = sweep_kind(state, steps, Kind::Pair)?;
@@ -122,7 +122,7 @@ fn try_step<S: Situation>(
     ensures none { IfOk result (λ made. made ≡ false → IsDue (S.state state.old) step.now → ⊥) }
     ensures refused { IfErr result (λ _. S.state state.new ≡ S.state state.old) }
 {
-    // for the prover: the state is a valid one
+    // For the prover: the state is a valid one.
     let _members = state.members();
     if !is_due(state, step, row) {
         return Ok(false);

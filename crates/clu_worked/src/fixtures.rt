@@ -6,7 +6,6 @@ ghost use Rattle.clu_state.specs.State.{decided as state_after};
 
 use clu_objective::{Objective, Problem};
 use clu_partition::{PairTable, Start, Vertex, all_vertices};
-use clu_reduce::is_free;
 use clu_state::{Decision, Rebuilt, Situation};
 use std::alloc::{AllocError, Global};
 use std::process::Abort;
@@ -99,7 +98,7 @@ pub fn decide<S: Situation>(rt: &impl Abort, state: &mut S, d: Decision) -> Resu
     ensures { OnOk result (S.state state.new ≡ state_after (S.state state.old) d) }
 {
     match d {
-        Decision::Together(u, v) | Decision::Apart(u, v) => assert!(rt; is_free(state, u, v)),
+        Decision::Together(u, v) | Decision::Apart(u, v) => assert!(rt; state.is_free(u, v)),
     }
     state.decide(d)
 }

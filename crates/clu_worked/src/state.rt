@@ -1,7 +1,7 @@
 //! Weights between groups of a five-cycle, and which of them are apart, worked by hand.
 
 use crate::fixtures::{CYCLE, Case, Decisions, Weights, is_met};
-use clu_partition::{Vertex, is_member};
+use clu_partition::Vertex;
 use clu_state::{Decision, Rebuilt, Situation};
 use std::alloc::{AllocError, Global};
 use std::test::Fail;
@@ -52,8 +52,7 @@ const CASES: [Decided; 4] = [
 /// The weight between the groups of two members and whether they are apart, if they are two groups.
 fn between<S: Situation>(state: &S, u: u32, v: u32) -> Option<(i128, bool)> {
     let (u, v) = (Vertex(u), Vertex(v));
-    let members = state.members();
-    if !is_member(members, u) || !is_member(members, v) {
+    if !state.has_member(u) || !state.has_member(v) {
         return None;
     }
     if state.group_of(u) == state.group_of(v) {

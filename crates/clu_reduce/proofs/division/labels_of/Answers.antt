@@ -14,7 +14,7 @@ loop-i-preserved g c = record {
 }
 
 pub returns-clause-stable : goal.returns-clause-stable
-returns-clause-stable g c = stable_all (g.S.Situation.state c.args.state.now) c.members-members.ensures.valid (slice_index c.loop-i.labels.items)
+returns-clause-stable g c = stable_all (g.S.Situation.state c.args.state.now) c.leaders.ensures.valid (slice_index c.loop-i.labels.items)
     c.loop-i.invariant.labels c.loop-i.i
     (let e = ap length c.in_ok-groups.ensures.value in let l = c.len-i-end.ensures in let t = c.loop-i-test.false in omega (arith, e, l, t))
     c.loop-i.invariant.tied
