@@ -11,7 +11,7 @@ use Rattle.clu_cert.specs.declared.certificate.Proof.{Proof}
 use Rattle.clu_cert.specs.declared.certificate.Certificate.{Certificate}
 use Rattle.clu_cert.specs.declared.reader.Stage.{Stage}
 use Rattle.clu_cert.specs.declared.reader.Stage.TheVariants as at
-use Rattle.clu_cert.specs.Fits.{IsPlace, StepFits, RowFits, ItemFits, ProofFits, Fits}
+use Rattle.clu_cert.specs.Fits.{IndexFits, StepFits, RowFits, ItemFits, ProofFits, Fits}
 use Rattle.clu_cert.specs.Text.{count_line, whole_line, numbers_line, objective_line, step_line, row_line, item_lines, proof_lines, lines_from_part, lines_from_step, lines_from_steps, lines_from_value, cert_lines}
 use Rattle.clu_cert.specs.Reading.{AtStage, StepsFit, lines_from_item}
 
@@ -85,7 +85,7 @@ alive (at.Value n) cert part leaf =
         count = length-copies n 0;
         value = omega arith;
         bound = omega arith;
-        labels = all-copies IsPlace n 0 (omega arith);
+        labels = all-copies IndexFits n 0 (omega arith);
         rest = record {
           step_count = omega arith;
           steps = tt;
@@ -111,7 +111,7 @@ alive (at.Bound n) cert part leaf =
         value = refl;
         count = length-copies n 0;
         bound = omega arith;
-        labels = all-copies IsPlace n 0 (omega arith);
+        labels = all-copies IndexFits n 0 (omega arith);
         rest = record { step_count = omega arith; steps = tt; proof_count = omega arith; proofs = tt };
         lines = refl;
       },
@@ -125,7 +125,7 @@ alive (at.Blocks n) cert part leaf =
         value = refl;
         bound = refl;
         count = length-copies n 0;
-        labels = all-copies IsPlace n 0 (omega arith);
+        labels = all-copies IndexFits n 0 (omega arith);
         rest = no_steps cert (copies n 0);
         lines = refl;
       },

@@ -8,14 +8,14 @@ use Rattle.std.proofs.lemmas.List.Splits.{join_with_byte-slice_split, length-sli
 use Rattle.clu_cert.specs.declared.certificate.Certificate.{Certificate}
 use Rattle.clu_cert.specs.declared.read.CertError.{CertError}
 use Rattle.clu_cert.specs.declared.read.CertError.TheVariants.{Memory, Bad}
-use Rattle.clu_cert.specs.Cut.{is_byte, fields_in}
+use Rattle.clu_cert.specs.Cut.{is_byte, spaced_fields}
 use Rattle.clu_cert.specs.Fits.{Fits}
-use Rattle.clu_cert.specs.Table.{BeginsTable, IsTable, TableFault, TableFaulty}
-use Rattle.clu_cert.specs.Text.{cert_lines, line_text, text_of, text}
-use Rattle.clu_cert.specs.Faults.{pieces, with_feeds, Begins, IsFault, Faulty}
+use Rattle.clu_cert.specs.Table.{BeginsTable, IsCertTable, TableFault, IsTableError}
+use Rattle.clu_cert.specs.Text.{cert_lines, line_text, text_of, cert_text}
+use Rattle.clu_cert.specs.Faults.{pieces, with_feeds, Begins, IsCertFault, IsCertError}
 use Rattle.clu_cert.proofs.Clean.{cert_clean, joined_lines, lines_again, table_again}
 
-feeds_are : (ps : List (List ℕ)) → text_of (map fields_in ps) ≡ with_feeds ps
+feeds_are : (ps : List (List ℕ)) → text_of (map spaced_fields ps) ≡ with_feeds ps
 feeds_are [] = refl
 feeds_are (p ∷ ps) = (λ i. (join_with_byte-slice_split 32 p i ++ (10 ∷ [])) ++ feeds_are ps i)
 
@@ -28,13 +28,13 @@ joined_all (p ∷ q ∷ es) last = ap (λ (t : List ℕ). p ++ (10 ∷ t)) (join
 bytes_are : (bytes : List ℕ) (ended : List (List ℕ)) (last : List ℕ) → pieces bytes ≡ ended ++ (last ∷ []) → bytes ≡ with_feeds ended ++ last
 bytes_are bytes ended last e = sym (join_with_byte-slice_split 10 bytes) ∙ ap (join_with_byte 10) e ∙ joined_all ended last
 
-pub is_text : (bytes : List ℕ) (c : Certificate) → IsTable bytes c → bytes ≡ text c
+pub is_text : (bytes : List ℕ) (c : Certificate) → IsCertTable bytes c → bytes ≡ cert_text c
 is_text bytes c t = bytes_are bytes t.ended [] t.pieces_are ∙ append-nil (with_feeds t.ended) ∙ sym (feeds_are t.ended) ∙ ap text_of t.is
 
-pub is_table : (bytes : List ℕ) (c : Certificate) → Fits c → bytes ≡ text c → IsTable bytes c
+pub is_table : (bytes : List ℕ) (c : Certificate) → Fits c → bytes ≡ cert_text c → IsCertTable bytes c
 is_table bytes c fits e = record {
   ended = joined_lines (cert_lines c);
-  pieces_are = ap pieces (e ∙ sym (append-nil (text c))) ∙ lines_again (cert_lines c) [] (cert_clean c fits);
+  pieces_are = ap pieces (e ∙ sym (append-nil (cert_text c))) ∙ lines_again (cert_lines c) [] (cert_clean c fits);
   fits = fits;
   is = table_again (cert_lines c) (cert_clean c fits);
 }
@@ -86,13 +86,13 @@ begins_table : (es : List (List ℕ)) → AllByRecursion NoFeed es → Begins (w
 begins_table es clean b =
     let ls = cert_lines b.cert in
     let again : joined_lines ls ++ ([] ∷ []) ≡ es ++ pieces b.rest = sym (lines_again ls [] (cert_clean b.cert b.fits))
-    ∙ ap pieces (append-nil (text b.cert) ∙ b.is) ∙ feeds_again es b.rest clean in
+    ∙ ap pieces (append-nil (cert_text b.cert) ∙ b.is) ∙ feeds_again es b.rest clean in
     let f = front_of (joined_lines ls) es (pieces b.rest) [] again (pieces_some b.rest) in
     record {
       cert = b.cert;
-      more = map fields_in f.more;
+      more = map spaced_fields f.more;
       fits = b.fits;
-      is = sym (map-append fields_in es f.more) ∙ ap (map fields_in) (sym f.is) ∙ table_again ls (cert_clean b.cert b.fits);
+      is = sym (map-append spaced_fields es f.more) ∙ ap (map spaced_fields) (sym f.is) ∙ table_again ls (cert_clean b.cert b.fits);
     }
 
 begins_bytes : (es : List (List ℕ)) → BeginsTable es → Begins (with_feeds es)
@@ -100,7 +100,7 @@ begins_bytes es b = record {
   cert = b.cert;
   rest = text_of b.more;
   fits = b.fits;
-  is = ap text_of (sym b.is) ∙ flat_map-append line_text (map fields_in es) b.more ∙ (λ i. feeds_are es i ++ text_of b.more);
+  is = ap text_of (sym b.is) ∙ flat_map-append line_text (map spaced_fields es) b.more ∙ (λ i. feeds_are es i ++ text_of b.more);
 }
 
 take_len : (xs ys : List (List ℕ)) → take (length xs) (xs ++ ys) ≡ xs
@@ -111,7 +111,7 @@ take_front : (xs ys : List (List ℕ)) (k : ℕ) → length xs ≡ k → take k 
 take_front xs ys k e = subst (λ (n : ℕ). take n (xs ++ ys) ≡ xs) e (take_len xs ys)
 
 whole_fault : (bytes : List ℕ) (line : ℕ) (t : TableFault bytes line) (after : List (List ℕ)) → t.after ≡ after → (c : Certificate)
-    → IsTable bytes c → ⊥
+    → IsCertTable bytes c → ⊥
 whole_fault bytes line t [] e c is = t.whole e c is
 whole_fault bytes line t (a ∷ others) e c is =
     let again : is.ended ++ ([] ∷ []) ≡ (t.before ++ (t.here ∷ [])) ++ t.after = sym is.pieces_are ∙ t.pieces_are
@@ -120,13 +120,13 @@ whole_fault bytes line t (a ∷ others) e c is =
     let f = front_of is.ended (t.before ++ (t.here ∷ [])) t.after [] again some in
     t.fails some (record {
       cert = c;
-      more = map fields_in f.more;
+      more = map spaced_fields f.more;
       fits = is.fits;
-      is = sym (map-append fields_in (t.before ++ (t.here ∷ [])) f.more)
-          ∙ ap (map fields_in) (sym f.is) ∙ is.is;
+      is = sym (map-append spaced_fields (t.before ++ (t.here ∷ [])) f.more)
+          ∙ ap (map spaced_fields) (sym f.is) ∙ is.is;
     })
 
-pub fault_is : (bytes : List ℕ) (line : ℕ) → TableFault bytes line → IsFault bytes line
+pub fault_is : (bytes : List ℕ) (line : ℕ) → TableFault bytes line → IsCertFault bytes line
 fault_is bytes line t =
     let two : pieces bytes ≡ (t.before ++ (t.here ∷ [])) ++ t.after = t.pieces_are ∙ sym (append_assoc t.before (t.here ∷ []) t.after) in
     let len : length (pieces bytes) ≡ length t.before + (1 + length t.after) = omega (
@@ -150,20 +150,20 @@ fault_is bytes line t =
       whole = λ c fits e. whole_fault bytes line t t.after refl c (is_table bytes c fits e);
     }
 
-faulty_is : (bytes : List ℕ) (e : CertError) → TableFaulty bytes e → Faulty bytes e
+faulty_is : (bytes : List ℕ) (e : CertError) → IsTableError bytes e → IsCertError bytes e
 faulty_is bytes Memory t = tt
 faulty_is bytes (Bad b) t = fault_is bytes b.line t
 
 -- what is read by lines is read by bytes
-pub found_in : (bytes : List ℕ) (r : Result Certificate CertError) → IfOk r (λ c. IsTable bytes c) → IfOk r (λ c. Fits c × (bytes ≡ text c))
+pub found_in : (bytes : List ℕ) (r : Result Certificate CertError) → IfOk r (λ c. IsCertTable bytes c) → IfOk r (λ c. Fits c × (bytes ≡ cert_text c))
 found_in bytes (Ok c) t = (t.fits, is_text bytes c t)
 found_in bytes (Err e) t = tt
 
-pub only_in : (bytes : List ℕ) (r : Result Certificate CertError) → IfOk r (λ c. (d : Certificate) → IsTable bytes d → d ≡ c)
-    → IfOk r (λ c. (d : Certificate) → Fits d → bytes ≡ text d → d ≡ c)
+pub only_in : (bytes : List ℕ) (r : Result Certificate CertError) → IfOk r (λ c. (d : Certificate) → IsCertTable bytes d → d ≡ c)
+    → IfOk r (λ c. (d : Certificate) → Fits d → bytes ≡ cert_text d → d ≡ c)
 only_in bytes (Ok c) only = λ d fits e. only d (is_table bytes d fits e)
 only_in bytes (Err e) only = tt
 
-pub bad_in : (bytes : List ℕ) (r : Result Certificate CertError) → IfErr r (λ e. TableFaulty bytes e) → IfErr r (λ e. Faulty bytes e)
+pub bad_in : (bytes : List ℕ) (r : Result Certificate CertError) → IfErr r (λ e. IsTableError bytes e) → IfErr r (λ e. IsCertError bytes e)
 bad_in bytes (Ok c) t = tt
 bad_in bytes (Err e) t = faulty_is bytes e t

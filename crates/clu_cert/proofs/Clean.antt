@@ -18,8 +18,8 @@ use Rattle.clu_reduce.specs.declared.step.Step.{Step}
 use Rattle.clu_rows.specs.Rows.{TwoSet}
 use Rattle.clu_cert.specs.declared.certificate.Proof.{Proof}
 use Rattle.clu_cert.specs.declared.certificate.Certificate.{Certificate}
-use Rattle.clu_cert.specs.Cut.{is_byte, fields_in}
-use Rattle.clu_cert.specs.Fits.{IsPlace, StepFits, RowFits, ItemFits, ProofFits, Fits}
+use Rattle.clu_cert.specs.Cut.{is_byte, spaced_fields}
+use Rattle.clu_cert.specs.Fits.{IndexFits, StepFits, RowFits, ItemFits, ProofFits, Fits}
 use Rattle.clu_cert.specs.Faults.{pieces}
 use Rattle.clu_cert.specs.Text.{from_one, kind_word, objective_word, step_line, row_line, item_lines, proof_lines, lines_from_part, lines_from_step, cert_lines, text_of}
 
@@ -62,10 +62,10 @@ signed_clean : (z : ℤ) → unsigned_abs z ≤ 2 ^ 126 → CleanField (signed_d
 signed_clean (pos n) fits = decimal_clean n (omega arith)
 signed_clean (negsuc n) fits = let d = decimal_clean (suc n) (omega arith) in (d.0, d.1)
 
-place_clean : (n : ℕ) → IsPlace n → CleanField (from_one n)
+place_clean : (n : ℕ) → IndexFits n → CleanField (from_one n)
 place_clean n fits = decimal_clean (n + 1) (omega arith)
 
-places_clean : (ns : List ℕ) → AllByRecursion IsPlace ns → AllByRecursion CleanField (map from_one ns)
+places_clean : (ns : List ℕ) → AllByRecursion IndexFits ns → AllByRecursion CleanField (map from_one ns)
 places_clean [] fits = tt
 places_clean (n ∷ ns) fits = (place_clean n fits.0, places_clean ns fits.1)
 
@@ -171,7 +171,7 @@ cert_clean c fits =
     )
 
 -- a clean line is cut into its fields again
-pub fields_again : (l : List (List ℕ)) → 0 < length l → AllByRecursion CleanField l → fields_in (join_with_byte 32 l) ≡ l
+pub fields_again : (l : List (List ℕ)) → 0 < length l → AllByRecursion CleanField l → spaced_fields (join_with_byte 32 l) ≡ l
 fields_again [] some clean = absurd (omega (arith, some))
 fields_again (f ∷ []) some clean = slice_split_none (is_byte 32) f (all_no 32 f clean.0.0)
 fields_again (f ∷ g ∷ rest) some clean =
@@ -197,6 +197,6 @@ lines_again (l ∷ ls) rest clean =
     ap pieces group ∙ slice_split_at (is_byte 10) (join_with_byte 32 l) 10 (text_of ls ++ rest) (line_no l clean.0.fields) refl
     ∙ ap (λ (t : List (List ℕ)). join_with_byte 32 l ∷ t) (lines_again ls rest clean.1)
 
-pub table_again : (ls : List (List (List ℕ))) → AllByRecursion CleanLine ls → map fields_in (joined_lines ls) ≡ ls
+pub table_again : (ls : List (List (List ℕ))) → AllByRecursion CleanLine ls → map spaced_fields (joined_lines ls) ≡ ls
 table_again [] clean = refl
 table_again (l ∷ ls) clean = (λ i. fields_again l clean.0.some clean.0.fields i ∷ table_again ls clean.1 i)

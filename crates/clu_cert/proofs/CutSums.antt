@@ -18,7 +18,7 @@ use Rattle.clu_state.proofs.Bounds.{size_of}
 use Rattle.clu_reduce.specs.declared.step.Step.{Step}
 use Rattle.clu_cert.specs.declared.certificate.Proof.{Proof}
 use Rattle.clu_cert.specs.Upper.{HasUpper}
-use Rattle.clu_cert.specs.Valid.{whole, stepped, IsPart, AllParts, Cover, part_state, HaveUppers}
+use Rattle.clu_cert.specs.Valid.{whole_state, stepped, IsPart, AllParts, Cover, part_state, HaveUppers}
 use Rattle.clu_cert.proofs.States.{part_is_state}
 use Rattle.clu_reduce.proofs.PartOf.{place_of, part_at}
 use Rattle.clu_reduce.proofs.PartsLaw.{over_parts, all_placed}
@@ -51,19 +51,19 @@ part_of s proofs i proof a l e =
 
 -- so its items are read from a state
 pub proof_state : (problem : Posed) (start : Closed) (steps : List Step) (proofs : List Proof) (i : ℕ) (proof : Proof) → HasRoot problem start steps →
-    AllParts (stepped (whole problem start) steps) [] (parts_in proofs) → i < length proofs → proof ≡ get_or proofs i proof →
+    AllParts (stepped (whole_state problem start) steps) [] (parts_in proofs) → i < length proofs → proof ≡ get_or proofs i proof →
     IsState (part_state problem start steps proof.part)
 proof_state problem start steps proofs i proof r a l e =
-    let p = part_of (stepped (whole problem start) steps) proofs i proof a l e in
+    let p = part_of (stepped (whole_state problem start) steps) proofs i proof a l e in
     part_is_state problem start steps p.earlier proof.part r.task r.held p.is
 
 -- and its upper isn't far below 0
 pub proof_least : (problem : Posed) (start : Closed) (steps : List Step) (proofs : List Proof) (i : ℕ) (proof : Proof) (upper : ℤ) →
     HasRoot problem start steps →
-    AllParts (stepped (whole problem start) steps) [] (parts_in proofs) → i < length proofs → proof ≡ get_or proofs i proof →
+    AllParts (stepped (whole_state problem start) steps) [] (parts_in proofs) → i < length proofs → proof ≡ get_or proofs i proof →
     HasUpper (part_state problem start steps proof.part) proof.items upper → neg_ℤ (pos (2 ^ 88)) ≤ℤ upper
 proof_least problem start steps proofs i proof upper r a l e h =
-    let p = part_of (stepped (whole problem start) steps) proofs i proof a l e in
+    let p = part_of (stepped (whole_state problem start) steps) proofs i proof a l e in
     part_upper_least problem start steps p.earlier proof.part proof.items upper r p.is h
 
 -- ---- there are no more parts than members
@@ -89,10 +89,10 @@ few_parts s i parts a cover =
     omega (arith, ints, one, two, three, four, five)
 
 pub few_proofs : (problem : Posed) (start : Closed) (steps : List Step) (proofs : List Proof) → HasRoot problem start steps →
-    AllParts (stepped (whole problem start) steps) [] (parts_in proofs) → Cover (stepped (whole problem start) steps) (parts_in proofs) →
+    AllParts (stepped (whole_state problem start) steps) [] (parts_in proofs) → Cover (stepped (whole_state problem start) steps) (parts_in proofs) →
     length proofs ≤ 1000
 few_proofs problem start steps proofs r a cover =
-    let few = few_parts (stepped (whole problem start) steps) (root_state problem start steps r) (parts_in proofs) a cover in
+    let few = few_parts (stepped (whole_state problem start) steps) (root_state problem start steps r) (parts_in proofs) a cover in
     let n = length-map proofs (λ (p : Proof). p.part) in
     let m = ap length (root_members problem start steps) in
     let k = below_size problem.pairs.n in
@@ -136,8 +136,8 @@ cut_next limit cut whole' sizes upper size c a b =
 
 cut_all : (limit : ℕ) (problem : Posed) (start : Closed) (steps : List Step) (proofs : List Proof) (uppers : List ℤ) (earlier : List (List ℕ)) →
     HasRoot problem start steps →
-    AllParts (stepped (whole problem start) steps) earlier (parts_in proofs) → HaveUppers problem start steps proofs uppers →
-    (label : ℕ → ℕ) → InClass (stepped (whole problem start) steps) label →
+    AllParts (stepped (whole_state problem start) steps) earlier (parts_in proofs) → HaveUppers problem start steps proofs uppers →
+    (label : ℕ → ℕ) → InClass (stepped (whole_state problem start) steps) label →
     Cut limit (cut_total limit uppers) (total (λ upper. upper) uppers)
     (total (λ part. pair_total (size_of (weight_of problem.pairs)) part) (parts_in proofs))
 cut_all limit problem start steps [] [] earlier r a h label c = record { most = omega (arith, ints); low = omega (arith, ints); kept = inl refl }
@@ -160,7 +160,7 @@ pub cut_kept : (limit : ℕ) (problem : Posed) (start : Closed) (steps : List St
 cut_kept limit problem start steps proofs uppers h far =
     let own = root_best problem start steps h.root (slice_index start.group) (own_permitted start h.root.task.closed) in
     let c = cut_all limit problem start steps proofs uppers [] h.root h.parts h.proved own.label own.class' in
-    let small = parts_small (stepped (whole problem start) steps) (root_state problem start steps h.root) (parts_in proofs) h.parts h.cover
+    let small = parts_small (stepped (whole_state problem start) steps) (root_state problem start steps h.root) (parts_in proofs) h.parts h.cover
     (weight_of problem.pairs) in
     let b = subst (λ ms. total (λ part. pair_total (size_of (weight_of problem.pairs)) part) (parts_in proofs) ≤ℤ pair_total
     (size_of (weight_of problem.pairs)) ms) (root_members problem start steps) small in

@@ -7,7 +7,7 @@ use Rattle.std.proofs.lemmas.Int.{to_z-of_z}
 use Rattle.std.proofs.lemmas.List.{append-nil, map-append, take_more}
 use Rattle.std.proofs.lemmas.Grind.{flat_map-append}
 use Rattle.clu_rows.specs.Rows.{TwoSet}
-use Rattle.clu_cert.specs.Text.{from_one, numbers_line, row_line, line_text, text_of, text, version_line, end_line, objective_line, count_line, whole_line, step_line, proof_lines, lines_from_value, lines_from_steps, lines_from_step, lines_from_part}
+use Rattle.clu_cert.specs.Text.{from_one, numbers_line, row_line, line_text, text_of, cert_text, version_line, end_line, objective_line, count_line, whole_line, step_line, proof_lines, lines_from_value, lines_from_steps, lines_from_step, lines_from_part}
 use Rattle.clu_cert.specs.declared.certificate.Certificate.{Certificate}
 use Rattle.clu_cert.specs.Numbers.{numbers_text}
 
@@ -74,7 +74,7 @@ pub cert_pushed : (c : Certificate) (o1 o2 o3 o4 o5 o6 o7 o8 o9 o10 o11 : List �
     → o6 ≡ o5 ++ text_of (numbers_line (codes "blocks") c.labels ∷ [])
     → o7 ≡ o6 ++ text_of (count_line (codes "steps") (length c.root_steps) ∷ []) → o8 ≡ o7 ++ text_of (map step_line c.root_steps)
     → o9 ≡ o8 ++ text_of (count_line (codes "parts") (length c.proofs) ∷ [])
-    → o10 ≡ o9 ++ text_of (flat_map proof_lines c.proofs) → o11 ≡ o10 ++ text_of (end_line ∷ []) → o11 ≡ text c
+    → o10 ≡ o9 ++ text_of (flat_map proof_lines c.proofs) → o11 ≡ o10 ++ text_of (end_line ∷ []) → o11 ≡ cert_text c
 cert_pushed c o1 o2 o3 o4 o5 o6 o7 o8 o9 o10 o11 e1 e2 e3 e4 e5 e6 e7 e8 e9 e10 e11 = sym (
     next [] o1 (version_line ∷ []) (objective_line c.objective ∷ count_line (codes "vertices") (length c.labels) ∷ lines_from_value c) e1
     ∙ next o1 o2 (objective_line c.objective ∷ []) (count_line (codes "vertices") (length c.labels) ∷ lines_from_value c) e2

@@ -10,18 +10,18 @@ use Rattle.clu_rows.specs.Rows.{TwoSet}
 use Rattle.clu_rows.specs.declared.row.Leaf.{Leaf}
 use Rattle.clu_cert.specs.declared.certificate.Proof.{Proof}
 use Rattle.clu_cert.specs.declared.certificate.Certificate.{Certificate}
-use Rattle.clu_cert.specs.Reads.{Reads}
+use Rattle.clu_cert.specs.Reads.{ReadsSpelling}
 use Rattle.clu_cert.specs.Fits.{StepFits, RowFits, ItemFits, PartFits, ProofFits}
 use Rattle.clu_cert.specs.ItemLines.{item_line, ItemLineFits}
 use Rattle.clu_cert.specs.Text.{count_line, numbers_line, proof_lines, end_line, step_line, row_line, leaf_line, item_lines, lines_from_part, lines_from_step}
-use Rattle.clu_cert.specs.Reading.{Head, StepLeft, PartLeft, ItemsLeft, ItemLeft, RowLeft, lines_from_item}
+use Rattle.clu_cert.specs.Reading.{SameHead, StepLeft, PartLeft, ItemsLeft, ItemLeft, RowLeft, lines_from_item}
 
 push_front : {X : Type 0} → (xs : List X) (x : X) (ys : List X) → xs ++ (x ∷ ys) ≡ (xs ++ (x ∷ [])) ++ ys
 push_front xs x ys = sym (append_assoc xs (x ∷ []) ys)
 
-module _ (left : ℕ) (cert : Certificate) (l : List (List ℕ)) (s : Step) (done : List Step) (reads : Reads step_line StepFits l (Some s))
+module _ (left : ℕ) (cert : Certificate) (l : List (List ℕ)) (s : Step) (done : List Step) (reads : ReadsSpelling step_line StepFits l (Some s))
     (is : done ≡ cert.root_steps ++ (s ∷ [])) (c : Certificate) (more : List (List (List ℕ))) where
-  step_to_at : (steps : List Step) → Head cert c → c.root_steps ≡ cert.root_steps ++ steps → length steps ≡ suc left → AllByRecursion StepFits steps
+  step_to_at : (steps : List Step) → SameHead cert c → c.root_steps ≡ cert.root_steps ++ steps → length steps ≡ suc left → AllByRecursion StepFits steps
       → length c.proofs < 2 ^ 64 → AllByRecursion ProofFits c.proofs → l ∷ more ≡ lines_from_step steps c.proofs
       → StepLeft left (record cert { root_steps = done }) c more
   step_to_at [] head are count fits pc ps lines = absurd (omega (arith, count))
@@ -54,7 +54,7 @@ module _ (left : ℕ) (cert : Certificate) (l : List (List ℕ)) (s : Step) (don
     lines = (λ i. reads.1 i ∷ h.lines i);
   }
 
-module _ (left : ℕ) (cert : Certificate) (l : List (List ℕ)) (none : Reads step_line StepFits l None) (c : Certificate)
+module _ (left : ℕ) (cert : Certificate) (l : List (List ℕ)) (none : ReadsSpelling step_line StepFits l None) (c : Certificate)
     (more : List (List (List ℕ))) where
   step_none_at : (steps : List Step) → length steps ≡ suc left → AllByRecursion StepFits steps → l ∷ more ≡ lines_from_step steps c.proofs → ⊥
   step_none_at [] count fits lines = absurd (omega (arith, count))
@@ -64,8 +64,8 @@ module _ (left : ℕ) (cert : Certificate) (l : List (List ℕ)) (none : Reads s
   step_none h = step_none_at h.steps h.count h.fits h.lines
 
 module _ (left : ℕ) (cert : Certificate) (l : List (List ℕ)) (vs : List ℕ) (part : Proof)
-    (reads : Reads (numbers_line (codes "part")) PartFits l (Some vs)) (is : part.part ≡ vs) (c : Certificate) (more : List (List (List ℕ))) where
-  part_to_at : (proofs : List Proof) → Head cert c → c.root_steps ≡ cert.root_steps → c.proofs ≡ cert.proofs ++ proofs → length proofs ≡ suc left
+    (reads : ReadsSpelling (numbers_line (codes "part")) PartFits l (Some vs)) (is : part.part ≡ vs) (c : Certificate) (more : List (List (List ℕ))) where
+  part_to_at : (proofs : List Proof) → SameHead cert c → c.root_steps ≡ cert.root_steps → c.proofs ≡ cert.proofs ++ proofs → length proofs ≡ suc left
       → AllByRecursion ProofFits proofs
       → l ∷ more ≡ lines_from_part proofs → ItemsLeft left cert part c more
   part_to_at [] head steps are count fits lines = absurd (omega (arith, count))
@@ -106,7 +106,7 @@ module _ (left : ℕ) (cert : Certificate) (l : List (List ℕ)) (vs : List ℕ)
             (sym (append_assoc (flat_map item_lines h.items) (flat_map proof_lines h.proofs) (end_line ∷ [])))) i);
       }
 
-module _ (left : ℕ) (cert : Certificate) (l : List (List ℕ)) (none : Reads (numbers_line (codes "part")) PartFits l None) (c : Certificate)
+module _ (left : ℕ) (cert : Certificate) (l : List (List ℕ)) (none : ReadsSpelling (numbers_line (codes "part")) PartFits l None) (c : Certificate)
     (more : List (List (List ℕ))) where
   part_none_at : (proofs : List Proof) → length proofs ≡ suc left → AllByRecursion ProofFits proofs → l ∷ more ≡ lines_from_part proofs → ⊥
   part_none_at [] count fits lines = absurd (omega (arith, count))
@@ -116,9 +116,9 @@ module _ (left : ℕ) (cert : Certificate) (l : List (List ℕ)) (none : Reads (
   part_none h = part_none_at h.proofs h.count h.fits h.lines
 
 module _ (parts left : ℕ) (cert : Certificate) (l : List (List ℕ)) (part new : Proof) (e : ItemLine) (x : Item)
-    (reads : Reads item_line ItemLineFits l (Some e)) (same_part : new.part ≡ part.part) (is : new.items ≡ part.items ++ (x ∷ []))
+    (reads : ReadsSpelling item_line ItemLineFits l (Some e)) (same_part : new.part ≡ part.part) (is : new.items ≡ part.items ++ (x ∷ []))
     (c : Certificate) (more : List (List (List ℕ))) where
-  pub item_to_at : (y : Item) (ys : List Item) (proofs : List Proof) → Head cert c → c.root_steps ≡ cert.root_steps
+  pub item_to_at : (y : Item) (ys : List Item) (proofs : List Proof) → SameHead cert c → c.root_steps ≡ cert.root_steps
       → c.proofs ≡ cert.proofs ++ ((record { part = part.part; items = part.items ++ (y ∷ ys) }) ∷ proofs) → length proofs ≡ parts
       → AllByRecursion ProofFits proofs
       → length ys ≡ left → AllByRecursion ItemFits ys → y ≡ x → more ≡ lines_from_item ys proofs → ItemLeft parts left cert new c more
@@ -158,10 +158,10 @@ module _ (parts left : ℕ) (cert : Certificate) (l : List (List ℕ)) (part new
 
 -- a branch
 module _ (parts left : ℕ) (cert : Certificate) (l : List (List ℕ)) (part new : Proof) (u v : ℕ)
-    (reads : Reads item_line ItemLineFits l (Some (line.Branch u v))) (same_part : new.part ≡ part.part)
+    (reads : ReadsSpelling item_line ItemLineFits l (Some (line.Branch u v))) (same_part : new.part ≡ part.part)
     (is : new.items ≡ part.items ++ (item.Branch u v ∷ []))
     (c : Certificate) (more : List (List (List ℕ))) where
-  branch_to_at : (items : List Item) (proofs : List Proof) → Head cert c → c.root_steps ≡ cert.root_steps
+  branch_to_at : (items : List Item) (proofs : List Proof) → SameHead cert c → c.root_steps ≡ cert.root_steps
       → c.proofs ≡ cert.proofs ++ ((record { part = part.part; items = part.items ++ items }) ∷ proofs) → length proofs ≡ parts
       → AllByRecursion ProofFits proofs
       → length items ≡ suc left → AllByRecursion ItemFits items → l ∷ more ≡ lines_from_item items proofs → ItemLeft parts left cert new c more
@@ -186,10 +186,10 @@ module _ (parts left : ℕ) (cert : Certificate) (l : List (List ℕ)) (part new
 
 -- a reduction
 module _ (parts left : ℕ) (cert : Certificate) (l : List (List ℕ)) (part new : Proof) (s : Step)
-    (reads : Reads item_line ItemLineFits l (Some (line.Reduce s))) (same_part : new.part ≡ part.part)
+    (reads : ReadsSpelling item_line ItemLineFits l (Some (line.Reduce s))) (same_part : new.part ≡ part.part)
     (is : new.items ≡ part.items ++ (item.Reduce s ∷ []))
     (c : Certificate) (more : List (List (List ℕ))) where
-  reduce_to_at : (items : List Item) (proofs : List Proof) → Head cert c → c.root_steps ≡ cert.root_steps
+  reduce_to_at : (items : List Item) (proofs : List Proof) → SameHead cert c → c.root_steps ≡ cert.root_steps
       → c.proofs ≡ cert.proofs ++ ((record { part = part.part; items = part.items ++ items }) ∷ proofs) → length proofs ≡ parts
       → AllByRecursion ProofFits proofs
       → length items ≡ suc left → AllByRecursion ItemFits items → l ∷ more ≡ lines_from_item items proofs → ItemLeft parts left cert new c more
@@ -213,7 +213,7 @@ module _ (parts left : ℕ) (cert : Certificate) (l : List (List ℕ)) (part new
   reduce_from = item_from_at parts left cert l part new (line.Reduce s) (item.Reduce s) reads same_part is c more reads.1 refl reads.0
 
 -- no line of an item
-module _ (parts left : ℕ) (cert : Certificate) (l : List (List ℕ)) (part : Proof) (none : Reads item_line ItemLineFits l None) (c : Certificate)
+module _ (parts left : ℕ) (cert : Certificate) (l : List (List ℕ)) (part : Proof) (none : ReadsSpelling item_line ItemLineFits l None) (c : Certificate)
     (more : List (List (List ℕ))) where
   item_none_at : (items : List Item) (proofs : List Proof) → length items ≡ suc left → AllByRecursion ItemFits items
       → l ∷ more ≡ lines_from_item items proofs → ⊥
@@ -227,9 +227,9 @@ module _ (parts left : ℕ) (cert : Certificate) (l : List (List ℕ)) (part : P
 
 -- a leaf begins
 module _ (parts left : ℕ) (cert : Certificate) (l : List (List ℕ)) (part : Proof) (den rows : ℕ) (leaf : Leaf)
-    (reads : Reads item_line ItemLineFits l (Some (line.Leaf den rows))) (den_is : leaf.den ≡ den) (is : leaf.rows ≡ [])
+    (reads : ReadsSpelling item_line ItemLineFits l (Some (line.Leaf den rows))) (den_is : leaf.den ≡ den) (is : leaf.rows ≡ [])
     (c : Certificate) (more : List (List (List ℕ))) where
-  leaf_to_at : (items : List Item) (proofs : List Proof) → Head cert c → c.root_steps ≡ cert.root_steps
+  leaf_to_at : (items : List Item) (proofs : List Proof) → SameHead cert c → c.root_steps ≡ cert.root_steps
       → c.proofs ≡ cert.proofs ++ ((record { part = part.part; items = part.items ++ items }) ∷ proofs) → length proofs ≡ parts
       → AllByRecursion ProofFits proofs
       → length items ≡ suc left → AllByRecursion ItemFits items → l ∷ more ≡ lines_from_item items proofs
@@ -293,9 +293,9 @@ module _ (parts left : ℕ) (cert : Certificate) (l : List (List ℕ)) (part : P
 
 -- a row
 module _ (parts later left : ℕ) (cert : Certificate) (l : List (List ℕ)) (part : Proof) (leaf new : Leaf) (r : TwoSet)
-    (reads : Reads row_line RowFits l (Some r)) (den_is : new.den ≡ leaf.den) (is : new.rows ≡ leaf.rows ++ (r ∷ []))
+    (reads : ReadsSpelling row_line RowFits l (Some r)) (den_is : new.den ≡ leaf.den) (is : new.rows ≡ leaf.rows ++ (r ∷ []))
     (c : Certificate) (more : List (List (List ℕ))) where
-  row_to_at : (rows : List TwoSet) (items : List Item) (proofs : List Proof) → Head cert c → c.root_steps ≡ cert.root_steps
+  row_to_at : (rows : List TwoSet) (items : List Item) (proofs : List Proof) → SameHead cert c → c.root_steps ≡ cert.root_steps
       → c.proofs ≡ cert.proofs ++ ((record {
         part = part.part;
         items = part.items ++ (item.Leaf (record { den = leaf.den; rows = leaf.rows ++ rows }) ∷ items);
@@ -351,7 +351,7 @@ module _ (parts later left : ℕ) (cert : Certificate) (l : List (List ℕ)) (pa
         lines = (λ i. reads.1 i ∷ h.lines i);
       }
 
-module _ (parts later left : ℕ) (cert : Certificate) (l : List (List ℕ)) (part : Proof) (leaf : Leaf) (none : Reads row_line RowFits l None)
+module _ (parts later left : ℕ) (cert : Certificate) (l : List (List ℕ)) (part : Proof) (leaf : Leaf) (none : ReadsSpelling row_line RowFits l None)
     (c : Certificate) (more : List (List (List ℕ))) where
   row_none_at : (rows : List TwoSet) (items : List Item) (proofs : List Proof) → length rows ≡ suc left → AllByRecursion RowFits rows
       → l ∷ more ≡ map row_line rows ++ lines_from_item items proofs → ⊥
@@ -368,7 +368,7 @@ module _ (parts later : ℕ) (cert : Certificate) (part : Proof) (leaf : Leaf) (
   leaf_behind rest = (λ i. part.items ++ (item.Leaf (record { den = leaf.den; rows = append-nil leaf.rows i }) ∷ rest))
       ∙ push_front part.items (item.Leaf leaf) rest ∙ (λ i. sym is i ++ rest)
 
-  leaf_done_at : (rows : List TwoSet) (rest : List Item) (proofs : List Proof) → Head cert c → c.root_steps ≡ cert.root_steps
+  leaf_done_at : (rows : List TwoSet) (rest : List Item) (proofs : List Proof) → SameHead cert c → c.root_steps ≡ cert.root_steps
       → c.proofs ≡ cert.proofs ++ ((record {
         part = part.part;
         items = part.items ++ (item.Leaf (record { den = leaf.den; rows = leaf.rows ++ rows }) ∷ rest);

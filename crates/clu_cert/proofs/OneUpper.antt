@@ -9,7 +9,7 @@ use Rattle.clu_reduce.specs.declared.step.Step.{Step}
 use Rattle.clu_cert.specs.declared.certificate.Item.{Item}
 use Rattle.clu_cert.specs.declared.certificate.Item.TheVariants.{Branch, Reduce, Leaf}
 use Rattle.clu_cert.specs.declared.certificate.Proof.{Proof}
-use Rattle.clu_cert.specs.Upper.{Reads, HasUpper, IsBadStep, IsBadLeaf, FailsAt, EndsEarly, GoesOn}
+use Rattle.clu_cert.specs.Upper.{ReadsItems, HasUpper, IsBadStep, IsBadLeaf, FailsAt, EndsEarly, GoesOn}
 use Rattle.clu_cert.specs.Valid.{part_state, HaveUppers}
 use Rattle.clu_cert.proofs.Reading.{begins, reads_once, reads_split}
 
@@ -41,18 +41,18 @@ uppers_once problem start steps (proof ∷ proofs) (a ∷ as') (b ∷ bs) p q =
 -- ---- a reading that fails
 -- the item that is to be read next in a whole tree begins the rest of the reading
 next_read : (s here : State) (open' : List State) (before after : List Item) (item : Item) (bounds : List ℤ) (items : List Item) (upper : ℤ) →
-    items ≡ before ++ item ∷ after → Reads (s ∷ []) before bounds (here ∷ open') → HasUpper s items upper →
-    (others : List ℤ) × Reads (here ∷ open') (item ∷ after) others []
+    items ≡ before ++ item ∷ after → ReadsItems (s ∷ []) before bounds (here ∷ open') → HasUpper s items upper →
+    (others : List ℤ) × ReadsItems (here ∷ open') (item ∷ after) others []
 next_read s here open' before after item bounds items upper e r h =
-    let two = reads_split before (item ∷ after) (s ∷ []) [] h.bounds (subst (λ xs. Reads (s ∷ []) xs h.bounds []) e h.tree) in
+    let two = reads_split before (item ∷ after) (s ∷ []) [] h.bounds (subst (λ xs. ReadsItems (s ∷ []) xs h.bounds []) e h.tree) in
     let same = (reads_once before (s ∷ []) two.middle (here ∷ open') two.bounds bounds two.first r).left_is in
-    (two.others, subst (λ xs. Reads xs (item ∷ after) two.others []) same two.second)
+    (two.others, subst (λ xs. ReadsItems xs (item ∷ after) two.others []) same two.second)
 
 pub no_bad_step : (s : State) (items : List Item) (number : ℕ) (upper : ℤ) → FailsAt IsBadStep s items number → HasUpper s items upper → ⊥
 no_bad_step s items number upper f h =
     good f.item f.bad (next_read s f.here f.open' f.before f.after f.item f.bounds items upper f.items_are f.read h)
   where
-    good : (item : Item) → IsBadStep f.here item → (others : List ℤ) × Reads (f.here ∷ f.open') (item ∷ f.after) others [] → ⊥
+    good : (item : Item) → IsBadStep f.here item → (others : List ℤ) × ReadsItems (f.here ∷ f.open') (item ∷ f.after) others [] → ⊥
     good (Branch u v) bad n = bad (begins n.1).0
     good (Reduce step) bad n = bad (begins n.1).0
     good (Leaf l) bad n = bad
@@ -61,7 +61,7 @@ pub no_bad_leaf : (s : State) (items : List Item) (number : ℕ) (upper : ℤ) �
 no_bad_leaf s items number upper f h =
     good f.item f.bad (next_read s f.here f.open' f.before f.after f.item f.bounds items upper f.items_are f.read h)
   where
-    good : (item : Item) → IsBadLeaf f.here item → (others : List ℤ) × Reads (f.here ∷ f.open') (item ∷ f.after) others [] → ⊥
+    good : (item : Item) → IsBadLeaf f.here item → (others : List ℤ) × ReadsItems (f.here ∷ f.open') (item ∷ f.after) others [] → ⊥
     good (Branch u v) bad n = bad
     good (Reduce step) bad n = bad
     good (Leaf l) bad n = bad (begins n.1).0
@@ -76,6 +76,6 @@ no_early_end s items upper f h =
 
 pub no_going_on : (s : State) (items : List Item) (upper : ℤ) → GoesOn s items → HasUpper s items upper → ⊥
 no_going_on s items upper f h =
-    let two = reads_split f.before (f.item ∷ f.after) (s ∷ []) [] h.bounds (subst (λ xs. Reads (s ∷ []) xs h.bounds []) f.items_are h.tree) in
+    let two = reads_split f.before (f.item ∷ f.after) (s ∷ []) [] h.bounds (subst (λ xs. ReadsItems (s ∷ []) xs h.bounds []) f.items_are h.tree) in
     let same = (reads_once f.before (s ∷ []) two.middle [] two.bounds f.bounds two.first f.read).left_is in
-    begins (subst (λ xs. Reads xs (f.item ∷ f.after) two.others []) same two.second)
+    begins (subst (λ xs. ReadsItems xs (f.item ∷ f.after) two.others []) same two.second)

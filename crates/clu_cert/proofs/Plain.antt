@@ -11,7 +11,7 @@ use Rattle.std.proofs.lemmas.Int.Digits.{digits_value_more}
 use Rattle.std.proofs.lemmas.List.{take_all, take_more}
 use Rattle.std.proofs.lemmas.Str.{digit_value_digit}
 use Rattle.std.proofs.lemmas.Str.Parse.{digit_at}
-use Rattle.clu_cert.specs.Reads.{Reads}
+use Rattle.clu_cert.specs.Reads.{ReadsSpelling}
 use Rattle.clu_text.proofs.Digits.{value_of_front}
 
 abbrev pub Starts : ℕ → List ℕ → Type 0
@@ -92,7 +92,7 @@ short (x ∷ y ∷ ys) not_long = absurd (not_long (omega arith))
 -- a field of digits without a leading zero is what is written of its value
 reads_field : (most : ℕ) (field : List ℕ) (r : Option ℕ) → most < 10 ^ 64
     → MatchOption r ((n : ℕ) → IsNumber field n → n < most → ⊥) (λ n. IsNumber field n × (n < most))
-    → (1 < length field → get_or field 0 0 ≡ 48 → ⊥) → Reads decimal (λ n. n < most) field r
+    → (1 < length field → get_or field 0 0 ≡ 48 → ⊥) → ReadsSpelling decimal (λ n. n < most) field r
 reads_field most field None room is differs = λ n fits e.
     let v = value_is n field (omega arith) e in is n (record { digits = v.0; value_is = v.1 }) fits
 reads_field most field (Some x) room is differs =
@@ -104,21 +104,21 @@ reads_field most field (Some x) room is differs =
     (is.1, sym p ∙ ap decimal is.0.value_is, λ n fits e. sym (value_is n field (omega arith) e).1 ∙ is.0.value_is)
 
 pub reads_u128 : (field : List ℕ) (r : Option ℕ) → MatchOption r ((n : ℕ) → IsU128 field n → ⊥) (λ n. IsU128 field n)
-    → (1 < length field → get_or field 0 0 ≡ 48 → ⊥) → Reads decimal IsWord field r
+    → (1 < length field → get_or field 0 0 ≡ 48 → ⊥) → ReadsSpelling decimal IsWord field r
 reads_u128 field None is differs = reads_field (2 ^ 128) field None (omega arith) (λ n a b. is n (record { number = a; fits = b })) differs
 reads_u128 field (Some x) is differs = reads_field (2 ^ 128) field (Some x) (omega arith) (is.number, is.fits) differs
 
 pub reads_u32 : (field : List ℕ) (r : Option ℕ) → MatchOption r ((n : ℕ) → IsU32 field n → ⊥) (λ n. IsU32 field n)
-    → (1 < length field → get_or field 0 0 ≡ 48 → ⊥) → Reads decimal (λ n. n < 2 ^ 32) field r
+    → (1 < length field → get_or field 0 0 ≡ 48 → ⊥) → ReadsSpelling decimal (λ n. n < 2 ^ 32) field r
 reads_u32 field None is differs = reads_field (2 ^ 32) field None (omega arith) (λ n a b. is n (record { number = a; fits = b })) differs
 reads_u32 field (Some x) is differs = reads_field (2 ^ 32) field (Some x) (omega arith) (is.number, is.fits) differs
 
 pub reads_u64 : (field : List ℕ) (r : Option ℕ) → MatchOption r ((n : ℕ) → IsU64 field n → ⊥) (λ n. IsU64 field n)
-    → (1 < length field → get_or field 0 0 ≡ 48 → ⊥) → Reads decimal (λ n. n < 2 ^ 64) field r
+    → (1 < length field → get_or field 0 0 ≡ 48 → ⊥) → ReadsSpelling decimal (λ n. n < 2 ^ 64) field r
 reads_u64 field None is differs = reads_field (2 ^ 64) field None (omega arith) (λ n a b. is n (record { number = a; fits = b })) differs
 reads_u64 field (Some x) is differs = reads_field (2 ^ 64) field (Some x) (omega arith) (is.number, is.fits) differs
 
-reads_zero : (most x : ℕ) (xs : List ℕ) → most < 10 ^ 64 → Reads decimal (λ n. n < most) (48 ∷ x ∷ xs) None
+reads_zero : (most x : ℕ) (xs : List ℕ) → most < 10 ^ 64 → ReadsSpelling decimal (λ n. n < most) (48 ∷ x ∷ xs) None
 reads_zero most x xs room = λ n fits e.
     let v = value_is n (48 ∷ x ∷ xs) (omega arith) e in
     let s : Starts n (48 ∷ x ∷ xs) = subst (Starts n) (sym e) (starts n (omega arith)) in
@@ -137,17 +137,17 @@ head_of n rest fits e =
 tail_is : (x y : ℕ) (xs ys : List ℕ) → x ∷ xs ≡ y ∷ ys → xs ≡ ys
 tail_is x y xs ys e = cc
 
-pub minus_none : (rest : List ℕ) → Reads decimal IsWord rest None → Reads signed_decimal IsWhole (45 ∷ rest) None
+pub minus_none : (rest : List ℕ) → ReadsSpelling decimal IsWord rest None → ReadsSpelling signed_decimal IsWhole (45 ∷ rest) None
 minus_none rest none (pos n) fits e = head_of n rest (omega arith) e
 minus_none rest none (negsuc n) fits e = none (suc n) (omega arith) (tail_is _ _ _ _ e)
 
-pub minus_out : (rest : List ℕ) (m : ℕ) → Reads decimal IsWord rest (Some m) → (m ≡ 0) ⊎ (2 ^ 126 < m) → Reads signed_decimal IsWhole (45 ∷ rest) None
+pub minus_out : (rest : List ℕ) (m : ℕ) → ReadsSpelling decimal IsWord rest (Some m) → (m ≡ 0) ⊎ (2 ^ 126 < m) → ReadsSpelling signed_decimal IsWhole (45 ∷ rest) None
 minus_out rest m is out (pos n) fits e = head_of n rest (omega arith) e
 minus_out rest m is out (negsuc n) fits e =
     let same : suc n ≡ m = is.2 (suc n) (omega arith) (tail_is _ _ _ _ e) in omega (arith, out, same)
 
-pub minus_some : (rest : List ℕ) (m : ℕ) → Reads decimal IsWord rest (Some (suc m)) → suc m ≤ 2 ^ 126
-    → Reads signed_decimal IsWhole (45 ∷ rest) (Some (negsuc m))
+pub minus_some : (rest : List ℕ) (m : ℕ) → ReadsSpelling decimal IsWord rest (Some (suc m)) → suc m ≤ 2 ^ 126
+    → ReadsSpelling signed_decimal IsWhole (45 ∷ rest) (Some (negsuc m))
 minus_some rest m is fits = (omega arith, ap (λ (t : List ℕ). 45 ∷ t) is.1, only)
   where
     only : (z : ℤ) → IsWhole z → 45 ∷ rest ≡ signed_decimal z → z ≡ negsuc m
@@ -157,33 +157,33 @@ minus_some rest m is fits = (omega arith, ap (λ (t : List ℕ). 45 ∷ t) is.1,
 negative_head : (field : List ℕ) (n : ℕ) → (get_or field 0 0 ≡ 45 → ⊥) → field ≡ 45 ∷ decimal (suc n) → ⊥
 negative_head field n differs e = differs (ap (λ (t : List ℕ). get_or t 0 0) e)
 
-pub plus_none : (field : List ℕ) → (get_or field 0 0 ≡ 45 → ⊥) → Reads decimal IsWord field None → Reads signed_decimal IsWhole field None
+pub plus_none : (field : List ℕ) → (get_or field 0 0 ≡ 45 → ⊥) → ReadsSpelling decimal IsWord field None → ReadsSpelling signed_decimal IsWhole field None
 plus_none field differs none (pos n) fits e = none n (omega arith) e
 plus_none field differs none (negsuc n) fits e = negative_head field n differs e
 
-pub plus_out : (field : List ℕ) (m : ℕ) → (get_or field 0 0 ≡ 45 → ⊥) → Reads decimal IsWord field (Some m) → 2 ^ 126 < m
-    → Reads signed_decimal IsWhole field None
+pub plus_out : (field : List ℕ) (m : ℕ) → (get_or field 0 0 ≡ 45 → ⊥) → ReadsSpelling decimal IsWord field (Some m) → 2 ^ 126 < m
+    → ReadsSpelling signed_decimal IsWhole field None
 plus_out field m differs is out (pos n) fits e = let same : n ≡ m = is.2 n (omega arith) e in omega (arith, same)
 plus_out field m differs is out (negsuc n) fits e = negative_head field n differs e
 
-pub plus_some : (field : List ℕ) (m : ℕ) → (get_or field 0 0 ≡ 45 → ⊥) → Reads decimal IsWord field (Some m) → m ≤ 2 ^ 126
-    → Reads signed_decimal IsWhole field (Some (pos m))
+pub plus_some : (field : List ℕ) (m : ℕ) → (get_or field 0 0 ≡ 45 → ⊥) → ReadsSpelling decimal IsWord field (Some m) → m ≤ 2 ^ 126
+    → ReadsSpelling signed_decimal IsWhole field (Some (pos m))
 plus_some field m differs is fits = (omega arith, is.1, only)
   where
     only : (z : ℤ) → IsWhole z → field ≡ signed_decimal z → z ≡ pos m
     only (pos n) fit e = ap pos (is.2 n (omega arith) e)
     only (negsuc n) fit e = absurd (negative_head field n differs e)
 
-pub two_digits : (most : ℕ) (field : List ℕ) → most < 10 ^ 64 → 1 < length field → get_or field 0 0 ≡ 48 → Reads decimal (λ n. n < most) field None
+pub two_digits : (most : ℕ) (field : List ℕ) → most < 10 ^ 64 → 1 < length field → get_or field 0 0 ≡ 48 → ReadsSpelling decimal (λ n. n < most) field None
 two_digits most [] room long is = absurd (omega arith)
 two_digits most (x ∷ []) room long is = absurd (omega arith)
-two_digits most (x ∷ y ∷ ys) room long is = subst (λ (d : ℕ). Reads decimal (λ n. n < most) (d ∷ y ∷ ys) None) (sym is) (reads_zero most y ys room)
+two_digits most (x ∷ y ∷ ys) room long is = subst (λ (d : ℕ). ReadsSpelling decimal (λ n. n < most) (d ∷ y ∷ ys) None) (sym is) (reads_zero most y ys room)
 
-pub below_zero : (rest : List ℕ) (m : ℕ) (z : ℤ) → Reads decimal IsWord rest (Some m) → (m ≡ 0 → ⊥) → m ≤ 2 ^ 126 → z ≡ neg_ℤ (pos m)
-    → Reads signed_decimal IsWhole (45 ∷ rest) (Some z)
+pub below_zero : (rest : List ℕ) (m : ℕ) (z : ℤ) → ReadsSpelling decimal IsWord rest (Some m) → (m ≡ 0 → ⊥) → m ≤ 2 ^ 126 → z ≡ neg_ℤ (pos m)
+    → ReadsSpelling signed_decimal IsWhole (45 ∷ rest) (Some z)
 below_zero rest zero z is some fits e = absurd (some refl)
-below_zero rest (suc m) z is some fits e = subst (λ (y : ℤ). Reads signed_decimal IsWhole (45 ∷ rest) (Some y)) (sym e) (minus_some rest m is fits)
+below_zero rest (suc m) z is some fits e = subst (λ (y : ℤ). ReadsSpelling signed_decimal IsWhole (45 ∷ rest) (Some y)) (sym e) (minus_some rest m is fits)
 
-pub whole_at : (field rest : List ℕ) (r : Option ℤ) → field ≡ 45 ∷ rest → Reads signed_decimal IsWhole (45 ∷ rest) r
-    → Reads signed_decimal IsWhole field r
-whole_at field rest r e is = subst (λ (t : List ℕ). Reads signed_decimal IsWhole t r) (sym e) is
+pub whole_at : (field rest : List ℕ) (r : Option ℤ) → field ≡ 45 ∷ rest → ReadsSpelling signed_decimal IsWhole (45 ∷ rest) r
+    → ReadsSpelling signed_decimal IsWhole field r
+whole_at field rest r e is = subst (λ (t : List ℕ). ReadsSpelling signed_decimal IsWhole t r) (sym e) is

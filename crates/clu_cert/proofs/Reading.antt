@@ -2,25 +2,25 @@
 use Rattle.std.proofs.Common.{◌≡◌, ℕ, ℤ, List, [], ◌∷◌, ◌++◌, refl, sym, ap, ◌∙◌, subst, append-nil}
 use Rattle.clu_state.specs.State.{State, IsFree, decided}
 use Rattle.clu_state.specs.declared.decision.Decision.TheVariants.{Together, Apart}
-use Rattle.clu_reduce.specs.Reduction.{Holds, decision_of}
+use Rattle.clu_reduce.specs.Reduction.{StepHolds, decision_of}
 use Rattle.clu_reduce.specs.declared.step.Step.{Step}
 use Rattle.clu_rows.specs.declared.row.Leaf.{Leaf as LeafOf}
 use Rattle.clu_rows.specs.Rows.{leaf_bound_of}
 use Rattle.clu_cert.specs.declared.certificate.Item.{Item}
 use Rattle.clu_cert.specs.declared.certificate.Item.TheVariants.{Branch, Reduce, Leaf}
-use Rattle.clu_cert.specs.Upper.{HasBound, Reads, none, branch, reduce, leaf}
+use Rattle.clu_cert.specs.Upper.{HasBound, ReadsItems, none, branch, reduce, leaf}
 
 -- what a reading says of its first item
 abbrev pub Begins : List State → List Item → List ℤ → List State → Type 0
 Begins open' [] bounds left = (bounds ≡ []) × (left ≡ open')
 Begins [] (item ∷ items) bounds left = ⊥
 Begins (s ∷ open') (Branch u v ∷ items) bounds left =
-    IsFree s u v × Reads (decided s (Together u v) ∷ decided s (Apart u v) ∷ open') items bounds left
-Begins (s ∷ open') (Reduce step ∷ items) bounds left = Holds s step × Reads (decided s (decision_of step) ∷ open') items bounds left
+    IsFree s u v × ReadsItems (decided s (Together u v) ∷ decided s (Apart u v) ∷ open') items bounds left
+Begins (s ∷ open') (Reduce step ∷ items) bounds left = StepHolds s step × ReadsItems (decided s (decision_of step) ∷ open') items bounds left
 Begins (s ∷ open') (Leaf l ∷ items) bounds left =
-    HasBound s l × (later : List ℤ) × (bounds ≡ leaf_bound_of s l.den l.rows ∷ later) × Reads open' items later left
+    HasBound s l × (later : List ℤ) × (bounds ≡ leaf_bound_of s l.den l.rows ∷ later) × ReadsItems open' items later left
 
-pub begins : {open' left : List State} {items : List Item} {bounds : List ℤ} → Reads open' items bounds left → Begins open' items bounds left
+pub begins : {open' left : List State} {items : List Item} {bounds : List ℤ} → ReadsItems open' items bounds left → Begins open' items bounds left
 begins none = (refl, refl)
 begins (branch f r) = (f, r)
 begins (reduce h r) = (h, r)
@@ -28,32 +28,32 @@ begins (leaf {bounds} h r) = (h, bounds, refl, r)
 
 -- ---- one reading behind another
 pub reads_join : {open' middle left : List State} {items more : List Item} {bounds others : List ℤ} →
-    Reads open' items bounds middle → Reads middle more others left → Reads open' (items ++ more) (bounds ++ others) left
+    ReadsItems open' items bounds middle → ReadsItems middle more others left → ReadsItems open' (items ++ more) (bounds ++ others) left
 reads_join none q = q
 reads_join (branch f r) q = branch f (reads_join r q)
 reads_join (reduce h r) q = reduce h (reads_join r q)
 reads_join (leaf h r) q = leaf h (reads_join r q)
 
 -- a reading is prolonged by a branch on a free pair
-pub more_branch : {open' left : List State} {s : State} {items : List Item} {bounds : List ℤ} (u v : ℕ) → Reads open' items bounds (s ∷ left) →
+pub more_branch : {open' left : List State} {s : State} {items : List Item} {bounds : List ℤ} (u v : ℕ) → ReadsItems open' items bounds (s ∷ left) →
     IsFree s u v →
-    Reads open' (items ++ Branch u v ∷ []) bounds (decided s (Together u v) ∷ decided s (Apart u v) ∷ left)
+    ReadsItems open' (items ++ Branch u v ∷ []) bounds (decided s (Together u v) ∷ decided s (Apart u v) ∷ left)
 more_branch {open'} {left} {s} {items} {bounds} u v r f =
-    subst (λ bs. Reads open' (items ++ Branch u v ∷ []) bs (decided s (Together u v) ∷ decided s (Apart u v) ∷ left)) (append-nil bounds)
+    subst (λ bs. ReadsItems open' (items ++ Branch u v ∷ []) bs (decided s (Together u v) ∷ decided s (Apart u v) ∷ left)) (append-nil bounds)
     (reads_join r (branch f none))
 
 -- by a reduction that holds
 pub more_reduce : {open' left : List State} {s : State} {items : List Item} {bounds : List ℤ} (step : Step) →
-    Reads open' items bounds (s ∷ left) → Holds s step →
-    Reads open' (items ++ Reduce step ∷ []) bounds (decided s (decision_of step) ∷ left)
+    ReadsItems open' items bounds (s ∷ left) → StepHolds s step →
+    ReadsItems open' (items ++ Reduce step ∷ []) bounds (decided s (decision_of step) ∷ left)
 more_reduce {open'} {left} {s} {items} {bounds} step r h =
-    subst (λ bs. Reads open' (items ++ Reduce step ∷ []) bs (decided s (decision_of step) ∷ left)) (append-nil bounds)
+    subst (λ bs. ReadsItems open' (items ++ Reduce step ∷ []) bs (decided s (decision_of step) ∷ left)) (append-nil bounds)
     (reads_join r (reduce h none))
 
 -- and by a leaf that has a bound
-pub more_leaf : {open' left : List State} {s : State} {items : List Item} {bounds : List ℤ} (l : LeafOf) → Reads open' items bounds (s ∷ left) →
+pub more_leaf : {open' left : List State} {s : State} {items : List Item} {bounds : List ℤ} (l : LeafOf) → ReadsItems open' items bounds (s ∷ left) →
     HasBound s l →
-    Reads open' (items ++ Leaf l ∷ []) (bounds ++ leaf_bound_of s l.den l.rows ∷ []) left
+    ReadsItems open' (items ++ Leaf l ∷ []) (bounds ++ leaf_bound_of s l.den l.rows ∷ []) left
 more_leaf l r h = reads_join r (leaf h none)
 
 -- ---- items are read in one way
@@ -61,8 +61,8 @@ pub record SameReading (bounds bounds' : List ℤ) (left left' : List State) : T
   pub bounds_are : bounds ≡ bounds'
   pub left_is : left ≡ left'
 
-pub reads_once : (items : List Item) (open' left left' : List State) (bounds bounds' : List ℤ) → Reads open' items bounds left →
-    Reads open' items bounds' left' →
+pub reads_once : (items : List Item) (open' left left' : List State) (bounds bounds' : List ℤ) → ReadsItems open' items bounds left →
+    ReadsItems open' items bounds' left' →
     SameReading bounds bounds' left left'
 reads_once [] open' left left' bounds bounds' r q =
     let a = begins r in
@@ -84,10 +84,10 @@ pub record ReadInTwo (open' : List State) (items more : List Item) (left : List 
   pub bounds : List ℤ
   pub middle : List State
   pub others : List ℤ
-  pub first : Reads open' items bounds middle
-  pub second : Reads middle more others left
+  pub first : ReadsItems open' items bounds middle
+  pub second : ReadsItems middle more others left
 
-pub reads_split : (items more : List Item) (open' left : List State) (bounds : List ℤ) → Reads open' (items ++ more) bounds left →
+pub reads_split : (items more : List Item) (open' left : List State) (bounds : List ℤ) → ReadsItems open' (items ++ more) bounds left →
     ReadInTwo open' items more left
 reads_split [] more open' left bounds r = record { bounds = []; middle = open'; others = bounds; first = none; second = r }
 reads_split (item ∷ items) more [] left bounds r = absurd (begins r)

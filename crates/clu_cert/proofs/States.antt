@@ -7,17 +7,17 @@ use Rattle.clu_partition.specs.Closed.{Closed, IsClosed, IsPermitted}
 use Rattle.clu_partition.specs.Partition.{below}
 use Rattle.clu_partition.proofs.Ranges.{below_size, below_at}
 use Rattle.clu_objective.specs.Problem.{Posed, IsPosed}
-use Rattle.clu_state.specs.State.{State, IsState, AreMembers, InClass, Obeys, decided, undecided}
+use Rattle.clu_state.specs.State.{State, IsState, AreMembers, InClass, ObeysDecision, decided, undecided}
 use Rattle.clu_state.specs.declared.decision.Decision.{Decision}
 use Rattle.clu_state.proofs.Joined.{decided_state}
 use Rattle.clu_state.proofs.Bridge.{contains_at}
 use Rattle.clu_state.proofs.Whole.{all_members, among_below}
 use Rattle.clu_state.proofs.Best.{worth, AsGood}
-use Rattle.clu_reduce.specs.Reduction.{Holds, decision_by, decision_of}
+use Rattle.clu_reduce.specs.Reduction.{StepHolds, decision_by, decision_of}
 use Rattle.clu_reduce.specs.declared.step.Kind.{Kind}
 use Rattle.clu_reduce.specs.declared.step.Kind.TheVariants.{Twin, Pair, Heavy, Light}
 use Rattle.clu_reduce.specs.declared.step.Step.{Step}
-use Rattle.clu_cert.specs.Valid.{whole, AllHold, stepped, IsPart, Rises, part_state, is_in, decisions_within}
+use Rattle.clu_cert.specs.Valid.{whole_state, StepsHold, stepped, IsPart, Rises, part_state, is_in, decisions_within}
 use Rattle.clu_reduce.proofs.PartOf.{is_in_listed, listed_is_in}
 use Rattle.clu_reduce.proofs.Keeps.{held_decides, held_keeps}
 use Rattle.clu_reduce.proofs.Restrict.{Undivided, Restricts, Within, undivided_before, restricts_both, restricts_other, decided_there}
@@ -30,7 +30,7 @@ pub record IsTask (problem : Posed) (start : Closed) : Type 0 where
   pub few : problem.pairs.n ≤ 1000
 
 -- ---- all vertices
-pub whole_is_state : (problem : Posed) (start : Closed) → IsTask problem start → IsState (whole problem start)
+pub whole_is_state : (problem : Posed) (start : Closed) → IsTask problem start → IsState (whole_state problem start)
 whole_is_state problem start t = record {
   one_size = sym t.size;
   small = t.few;
@@ -42,7 +42,7 @@ whole_is_state problem start t = record {
 
 -- a permitted partition is of its class
 pub permitted_class : (problem : Posed) (start : Closed) (label : ℕ → ℕ) → IsTask problem start → IsPermitted start label →
-    InClass (whole problem start) label
+    InClass (whole_state problem start) label
 permitted_class problem start label t p = record {
   required = All-from_get_or (λ v. label (slice_index start.group v) ≡ label v) (below problem.pairs.n) 0 (λ i h.
       let n = below_size problem.pairs.n in
@@ -52,7 +52,7 @@ permitted_class problem start label t p = record {
   forbidden = All-weaker (λ p. label p.0 ≡ label p.1 → ⊥) (λ p. Contains (below problem.pairs.n) p.0 → Contains (below problem.pairs.n) p.1 →
       label p.0 ≡ label p.1 → ⊥)
       (λ p d _ _. d) start.forbidden p.forbidden;
-  decisions = All-nil (Obeys label);
+  decisions = All-nil (ObeysDecision label);
 }
 
 -- ---- after the root steps
@@ -61,13 +61,13 @@ stepped_is s [] = ap (λ (ds : List Decision). record s { decisions = ds }) (sym
 stepped_is s (step ∷ steps) = stepped_is (decided s (decision_of step)) steps
     ∙ ap (λ (ds : List Decision). record s { decisions = ds }) (append_assoc s.decisions (decision_of step ∷ []) (map decision_of steps))
 
-pub stepped_state : (s : State) (steps : List Step) → IsState s → AllHold s steps → IsState (stepped s steps)
+pub stepped_state : (s : State) (steps : List Step) → IsState s → StepsHold s steps → IsState (stepped s steps)
 stepped_state s [] i h = i
 stepped_state s (step ∷ steps) i h =
     stepped_state (decided s (decision_of step)) steps (decided_state s (decision_of step) i (held_decides s step h.0)) h.1
 
 -- for each partition of the class there is one after the steps that is worth as much at least
-pub stepped_best : (s : State) (steps : List Step) (label : ℕ → ℕ) → IsState s → AllHold s steps → InClass s label →
+pub stepped_best : (s : State) (steps : List Step) (label : ℕ → ℕ) → IsState s → StepsHold s steps → InClass s label →
     AsGood (stepped s steps) (worth s label)
 stepped_best s [] label i h c = record { label = label; class' = c; better = omega (arith, ints) }
 stepped_best s (step ∷ steps) label i h c =
@@ -95,18 +95,18 @@ all_picked P test (step ∷ steps) a =
 -- a partition of the class after the root steps is one of the part's class
 pub part_class : (problem : Posed) (start : Closed) (steps : List Step) (part : List ℕ) (label : ℕ → ℕ) →
     All (Contains (below problem.pairs.n)) part →
-    InClass (stepped (whole problem start) steps) label → InClass (part_state problem start steps part) label
+    InClass (stepped (whole_state problem start) steps) label → InClass (part_state problem start steps part) label
 part_class problem start steps part label m c = record {
   required = All-weaker (Contains (below problem.pairs.n)) (λ v. label (slice_index start.group v) ≡ label v)
       (λ v k. All-contains (λ v. label (slice_index start.group v) ≡ label v) (below problem.pairs.n) v all.required k) part m;
   forbidden = All-weaker (λ p. Contains (below problem.pairs.n) p.0 → Contains (below problem.pairs.n) p.1 → label p.0 ≡ label p.1 → ⊥)
       (λ p. Contains part p.0 → Contains part p.1 → label p.0 ≡ label p.1 → ⊥)
       (λ p d a b. d (inside p.0 a) (inside p.1 b)) start.forbidden all.forbidden;
-  decisions = all_picked (Obeys label) (λ step. is_in part step.u && is_in part step.v) steps all.decisions;
+  decisions = all_picked (ObeysDecision label) (λ step. is_in part step.u && is_in part step.v) steps all.decisions;
 }
   where
     all : InClass (record { pairs = problem.pairs; start = start; members = below problem.pairs.n; decisions = map decision_of steps }) label
-    all = subst (λ s. InClass s label) (stepped_is (whole problem start) steps) c
+    all = subst (λ s. InClass s label) (stepped_is (whole_state problem start) steps) c
 
     inside : (v : ℕ) → Contains part v → Contains (below problem.pairs.n) v
     inside v k = All-contains (Contains (below problem.pairs.n)) part v m k
@@ -114,7 +114,7 @@ part_class problem start steps part label m c = record {
 -- ---- the state of a part
 -- the members of a part that divides no group of the rules hold each of them whole
 pub part_members : (problem : Posed) (start : Closed) (part : List ℕ) → IsTask problem start → Rises part →
-    All (Contains (below problem.pairs.n)) part → Undivided (whole problem start) part → AreMembers start part
+    All (Contains (below problem.pairs.n)) part → Undivided (whole_state problem start) part → AreMembers start part
 part_members problem start part t rising members un = record {
   rising = rising;
   below = All-weaker (Contains (below problem.pairs.n)) (λ v. v < length start.group) small part members;
@@ -158,7 +158,7 @@ with_more p ds = record p { decisions = p.decisions ++ ds }
 
 -- one step, where the rest of them is known for each state of the part
 restricted_by : (s p : State) (part : List ℕ) (step : Step) (steps : List Step) (b : Bool) → (is_in part step.u && is_in part step.v) ≡ b →
-    p.members ≡ part → Restricts s p → Holds s step → Undivided (decided s (decision_of step)) part →
+    p.members ≡ part → Restricts s p → StepHolds s step → Undivided (decided s (decision_of step)) part →
     ((q : State) → q.members ≡ part → Restricts (decided s (decision_of step)) q →
     Restricts (stepped (decided s (decision_of step)) steps) (with_more q (decisions_within part steps))) →
     Restricts (stepped (decided s (decision_of step)) steps)
@@ -179,7 +179,7 @@ restricted_by s p part step steps false t e r held un rest = rest p e
     true≢false (sym (and_from (is_in part step.u) (is_in part step.v) (is_in_listed part step.u k.0) (is_in_listed part step.v k.1)) ∙ t)))
 
 -- a state of a part restricts that of all members, step by step
-restricted : (steps : List Step) (s p : State) (part : List ℕ) → p.members ≡ part → Restricts s p → AllHold s steps →
+restricted : (steps : List Step) (s p : State) (part : List ℕ) → p.members ≡ part → Restricts s p → StepsHold s steps →
     Undivided (stepped s steps) part → Restricts (stepped s steps) (with_more p (decisions_within part steps))
 restricted [] s p part e r h un =
     subst (λ (ds : List Decision). Restricts s (record p { decisions = ds })) (sym (append-nil p.decisions)) r
@@ -190,16 +190,16 @@ restricted (step ∷ steps) s p part e r h un =
 
 -- a part's state restricts that after the root steps: it is valid, and has the groups there
 pub part_restricts : (problem : Posed) (start : Closed) (steps : List Step) (earlier : List (List ℕ)) (part : List ℕ) → IsTask problem start →
-    AllHold (whole problem start) steps → IsPart (stepped (whole problem start) steps) earlier part →
-    Restricts (stepped (whole problem start) steps) (part_state problem start steps part)
+    StepsHold (whole_state problem start) steps → IsPart (stepped (whole_state problem start) steps) earlier part →
+    Restricts (stepped (whole_state problem start) steps) (part_state problem start steps part)
 part_restricts problem start steps earlier part t h p =
-    restricted steps (whole problem start) (undecided problem.pairs start part) part refl (record {
+    restricted steps (whole_state problem start) (undecided problem.pairs start part) part refl (record {
       state = record {
         one_size = sym t.size;
         small = t.few;
         total = t.posed.total;
         closed = t.closed;
-        members = part_members problem start part t p.rising members (undivided_first (whole problem start) steps part un);
+        members = part_members problem start part t p.rising members (undivided_first (whole_state problem start) steps part un);
         made = tt;
       };
       members = λ v c. All-contains (Contains (below problem.pairs.n)) part v members c;
@@ -207,15 +207,15 @@ part_restricts problem start steps earlier part t h p =
       apart = λ q c. c;
     }) h un
   where
-    all_members : (stepped (whole problem start) steps).members ≡ below problem.pairs.n
-    all_members = ap (λ (s : State). s.members) (stepped_is (whole problem start) steps)
+    all_members : (stepped (whole_state problem start) steps).members ≡ below problem.pairs.n
+    all_members = ap (λ (s : State). s.members) (stepped_is (whole_state problem start) steps)
 
     members : All (Contains (below problem.pairs.n)) part
     members = subst (λ ms. All (Contains ms) part) all_members p.members
 
-    un : Undivided (stepped (whole problem start) steps) part
+    un : Undivided (stepped (whole_state problem start) steps) part
     un = record { whole = p.undivided }
 
 pub part_is_state : (problem : Posed) (start : Closed) (steps : List Step) (earlier : List (List ℕ)) (part : List ℕ) → IsTask problem start →
-    AllHold (whole problem start) steps → IsPart (stepped (whole problem start) steps) earlier part → IsState (part_state problem start steps part)
+    StepsHold (whole_state problem start) steps → IsPart (stepped (whole_state problem start) steps) earlier part → IsState (part_state problem start steps part)
 part_is_state problem start steps earlier part t h p = (part_restricts problem start steps earlier part t h p).state

@@ -22,7 +22,7 @@ use Rattle.clu_reduce.specs.declared.step.Step.{Step}
 use Rattle.clu_cert.specs.declared.certificate.Item.{Item}
 use Rattle.clu_cert.specs.declared.certificate.Proof.{Proof}
 use Rattle.clu_cert.specs.Upper.{HasUpper}
-use Rattle.clu_cert.specs.Valid.{whole, AllHold, stepped, IsPart, AllParts, Cover, part_state, HaveUppers}
+use Rattle.clu_cert.specs.Valid.{whole_state, StepsHold, stepped, IsPart, AllParts, Cover, part_state, HaveUppers}
 use Rattle.clu_cert.proofs.Sound.{upper_sound}
 use Rattle.clu_cert.proofs.States.{IsTask, whole_is_state, permitted_class, stepped_is, stepped_state, stepped_best, part_class, part_is_state}
 use Rattle.clu_reduce.proofs.PartOf.{place_of}
@@ -35,34 +35,34 @@ parts_in proofs = map (λ proof. proof.part) proofs
 -- a problem and its rules with root steps that hold
 pub record HasRoot (problem : Posed) (start : Closed) (steps : List Step) : Type 0 where
   pub task : IsTask problem start
-  pub held : AllHold (whole problem start) steps
+  pub held : StepsHold (whole_state problem start) steps
 
-pub root_pairs : (problem : Posed) (start : Closed) (steps : List Step) → (stepped (whole problem start) steps).pairs ≡ problem.pairs
-root_pairs problem start steps = ap (λ (s : State). s.pairs) (stepped_is (whole problem start) steps)
+pub root_pairs : (problem : Posed) (start : Closed) (steps : List Step) → (stepped (whole_state problem start) steps).pairs ≡ problem.pairs
+root_pairs problem start steps = ap (λ (s : State). s.pairs) (stepped_is (whole_state problem start) steps)
 
-pub root_members : (problem : Posed) (start : Closed) (steps : List Step) → (stepped (whole problem start) steps).members ≡ below problem.pairs.n
-root_members problem start steps = ap (λ (s : State). s.members) (stepped_is (whole problem start) steps)
+pub root_members : (problem : Posed) (start : Closed) (steps : List Step) → (stepped (whole_state problem start) steps).members ≡ below problem.pairs.n
+root_members problem start steps = ap (λ (s : State). s.members) (stepped_is (whole_state problem start) steps)
 
-pub root_state : (problem : Posed) (start : Closed) (steps : List Step) → HasRoot problem start steps → IsState (stepped (whole problem start) steps)
-root_state problem start steps r = stepped_state (whole problem start) steps (whole_is_state problem start r.task) r.held
+pub root_state : (problem : Posed) (start : Closed) (steps : List Step) → HasRoot problem start steps → IsState (stepped (whole_state problem start) steps)
+root_state problem start steps r = stepped_state (whole_state problem start) steps (whole_is_state problem start r.task) r.held
 
 -- for each permitted partition one of the class after the root steps
 pub root_best : (problem : Posed) (start : Closed) (steps : List Step) → HasRoot problem start steps → (label : ℕ → ℕ) → IsPermitted start label →
-    AsGood (stepped (whole problem start) steps) (value_on (weight_of problem.pairs) label (below problem.pairs.n))
+    AsGood (stepped (whole_state problem start) steps) (value_on (weight_of problem.pairs) label (below problem.pairs.n))
 root_best problem start steps r label p =
-    stepped_best (whole problem start) steps label (whole_is_state problem start r.task) r.held (permitted_class problem start label r.task p)
+    stepped_best (whole_state problem start) steps label (whole_is_state problem start r.task) r.held (permitted_class problem start label r.task p)
 
 -- ---- one part
 part_within : (problem : Posed) (start : Closed) (steps : List Step) (earlier : List (List ℕ)) (part : List ℕ) →
-    IsPart (stepped (whole problem start) steps) earlier part →
+    IsPart (stepped (whole_state problem start) steps) earlier part →
     All (Contains (below problem.pairs.n)) part
 part_within problem start steps earlier part p = subst (λ ms. All (Contains ms) part) (root_members problem start steps) p.members
 
 -- no partition of the class after the root steps is worth more in a part than the part's upper
 pub part_sound : (problem : Posed) (start : Closed) (steps : List Step) (earlier : List (List ℕ)) (part : List ℕ) (items : List Item)
     (upper : ℤ) → HasRoot problem start steps →
-    IsPart (stepped (whole problem start) steps) earlier part → HasUpper (part_state problem start steps part) items upper →
-    (label : ℕ → ℕ) → InClass (stepped (whole problem start) steps) label → value_on (weight_of problem.pairs) label part ≤ℤ upper
+    IsPart (stepped (whole_state problem start) steps) earlier part → HasUpper (part_state problem start steps part) items upper →
+    (label : ℕ → ℕ) → InClass (stepped (whole_state problem start) steps) label → value_on (weight_of problem.pairs) label part ≤ℤ upper
 part_sound problem start steps earlier part items upper r p h label c =
     upper_sound (part_state problem start steps part) (part_is_state problem start steps earlier part r.task r.held p) items upper h label
     (part_class problem start steps part label (part_within problem start steps earlier part p) c)
@@ -75,7 +75,7 @@ value_low w label part upper l = let h = value_size (λ u v. label u == label v)
 -- the upper of a part isn't far below 0
 pub part_upper_least : (problem : Posed) (start : Closed) (steps : List Step) (earlier : List (List ℕ)) (part : List ℕ) (items : List Item)
     (upper : ℤ) → HasRoot problem start steps →
-    IsPart (stepped (whole problem start) steps) earlier part → HasUpper (part_state problem start steps part) items upper →
+    IsPart (stepped (whole_state problem start) steps) earlier part → HasUpper (part_state problem start steps part) items upper →
     neg_ℤ (pos (2 ^ 88)) ≤ℤ upper
 part_upper_least problem start steps earlier part items upper r p h =
     let own = root_best problem start steps r (slice_index start.group) (own_permitted start r.task.closed) in
@@ -90,8 +90,8 @@ part_upper_least problem start steps earlier part items upper r p h =
 -- ---- all parts
 pub parts_sound : (problem : Posed) (start : Closed) (steps : List Step) (proofs : List Proof) (uppers : List ℤ) (earlier : List (List ℕ)) →
     HasRoot problem start steps →
-    AllParts (stepped (whole problem start) steps) earlier (parts_in proofs) → HaveUppers problem start steps proofs uppers →
-    (label : ℕ → ℕ) → InClass (stepped (whole problem start) steps) label →
+    AllParts (stepped (whole_state problem start) steps) earlier (parts_in proofs) → HaveUppers problem start steps proofs uppers →
+    (label : ℕ → ℕ) → InClass (stepped (whole_state problem start) steps) label →
     total (λ part. value_on (weight_of problem.pairs) label part) (parts_in proofs) ≤ℤ total (λ upper. upper) uppers
 parts_sound problem start steps [] [] earlier r a h label c = omega (arith, ints)
 parts_sound problem start steps [] (upper ∷ uppers) earlier r a h label c = absurd h
@@ -104,8 +104,8 @@ parts_sound problem start steps (proof ∷ proofs) (upper ∷ uppers) earlier r 
 -- parts that cover the vertices, each with an upper
 pub record HasProofs (problem : Posed) (start : Closed) (steps : List Step) (proofs : List Proof) (uppers : List ℤ) : Type 0 where
   pub root : HasRoot problem start steps
-  pub parts : AllParts (stepped (whole problem start) steps) [] (parts_in proofs)
-  pub cover : Cover (stepped (whole problem start) steps) (parts_in proofs)
+  pub parts : AllParts (stepped (whole_state problem start) steps) [] (parts_in proofs)
+  pub cover : Cover (stepped (whole_state problem start) steps) (parts_in proofs)
   pub proved : HaveUppers problem start steps proofs uppers
 
 -- no permitted partition is worth more than the uppers together
@@ -115,9 +115,9 @@ pub uppers_sound : (problem : Posed) (start : Closed) (steps : List Step) (proof
 uppers_sound problem start steps proofs uppers h label p =
     let good = root_best problem start steps h.root label p in
     let a = good.better in
-    let law = parts_law (stepped (whole problem start) steps) (root_state problem start steps h.root)
+    let law = parts_law (stepped (whole_state problem start) steps) (root_state problem start steps h.root)
     (parts_in proofs) h.parts h.cover good.label good.class' in
-    let b = subst (λ t. worth (stepped (whole problem start) steps) good.label ≤ℤ total (λ part. value_on (weight_of t) good.label part)
+    let b = subst (λ t. worth (stepped (whole_state problem start) steps) good.label ≤ℤ total (λ part. value_on (weight_of t) good.label part)
     (parts_in proofs)) (root_pairs problem start steps) law in
     let c = parts_sound problem start steps proofs uppers [] h.root h.parts h.proved good.label good.class' in
     omega (arith, ints, a, b, c)
@@ -125,8 +125,8 @@ uppers_sound problem start steps proofs uppers h label p =
 -- ---- how far below 0 the uppers are
 uppers_low : (problem : Posed) (start : Closed) (steps : List Step) (proofs : List Proof) (uppers : List ℤ) (earlier : List (List ℕ)) →
     HasRoot problem start steps →
-    AllParts (stepped (whole problem start) steps) earlier (parts_in proofs) → HaveUppers problem start steps proofs uppers →
-    (label : ℕ → ℕ) → InClass (stepped (whole problem start) steps) label →
+    AllParts (stepped (whole_state problem start) steps) earlier (parts_in proofs) → HaveUppers problem start steps proofs uppers →
+    (label : ℕ → ℕ) → InClass (stepped (whole_state problem start) steps) label →
     pos 0 ≤ℤ (total (λ upper. upper) uppers +ℤ total (λ part. pair_total (size_of (weight_of problem.pairs)) part) (parts_in proofs))
 uppers_low problem start steps [] [] earlier r a h label c = omega (arith, ints)
 uppers_low problem start steps [] (upper ∷ uppers) earlier r a h label c = absurd h
@@ -159,7 +159,7 @@ pub uppers_least : (problem : Posed) (start : Closed) (steps : List Step) (proof
 uppers_least problem start steps proofs uppers h =
     let own = root_best problem start steps h.root (slice_index start.group) (own_permitted start h.root.task.closed) in
     let a = uppers_low problem start steps proofs uppers [] h.root h.parts h.proved own.label own.class' in
-    let law = parts_small (stepped (whole problem start) steps) (root_state problem start steps h.root) (parts_in proofs) h.parts h.cover
+    let law = parts_small (stepped (whole_state problem start) steps) (root_state problem start steps h.root) (parts_in proofs) h.parts h.cover
     (weight_of problem.pairs) in
     let b = subst (λ ms. total (λ part. pair_total (size_of (weight_of problem.pairs)) part) (parts_in proofs) ≤ℤ pair_total
     (size_of (weight_of problem.pairs)) ms) (root_members problem start steps) law in

@@ -10,19 +10,19 @@ use Rattle.clu_cert.specs.declared.certificate.Proof.{Proof}
 use Rattle.clu_cert.specs.declared.certificate.Certificate.{Certificate}
 
 -- a vertex or a label
-abbrev pub IsPlace : ℕ → Type 0
-IsPlace n = n < 1000
+abbrev pub IndexFits : ℕ → Type 0
+IndexFits n = n < 1000
 
 abbrev pub StepFits : Step → Type 0
-StepFits s = IsPlace s.u × IsPlace s.v
+StepFits s = IndexFits s.u × IndexFits s.v
 
 -- both sets of a row have a vertex
 pub record RowFits (r : TwoSet) : Type 0 where
   pub y : r.y < 2 ^ 128
   pub some_s : 0 < length r.s
-  pub s : AllByRecursion IsPlace r.s
+  pub s : AllByRecursion IndexFits r.s
   pub some_t : 0 < length r.t
-  pub t : AllByRecursion IsPlace r.t
+  pub t : AllByRecursion IndexFits r.t
 
 pub record LeafFits (l : LeafValue) : Type 0 where
   pub den : l.den < 2 ^ 64
@@ -31,10 +31,10 @@ pub record LeafFits (l : LeafValue) : Type 0 where
 
 -- one vertex or more
 abbrev pub PartFits : List ℕ → Type 0
-PartFits vs = (0 < length vs) × AllByRecursion IsPlace vs
+PartFits vs = (0 < length vs) × AllByRecursion IndexFits vs
 
 abbrev pub ItemFits : Item → Type 0
-ItemFits (Branch u v) = IsPlace u × IsPlace v
+ItemFits (Branch u v) = IndexFits u × IndexFits v
 ItemFits (Reduce s) = StepFits s
 ItemFits (Leaf l) = LeafFits l
 
@@ -46,7 +46,7 @@ pub record ProofFits (p : Proof) : Type 0 where
 -- a certificate that has a text
 pub record Fits (c : Certificate) : Type 0 where
   pub count : length c.labels ≤ 1000
-  pub labels : AllByRecursion IsPlace c.labels
+  pub labels : AllByRecursion IndexFits c.labels
   pub value : unsigned_abs c.value ≤ 2 ^ 126
   pub bound : unsigned_abs c.bound ≤ 2 ^ 126
   pub step_count : length c.root_steps < 2 ^ 64

@@ -11,7 +11,7 @@ use Rattle.clu_cert.specs.declared.certificate.Certificate.{Certificate}
 use Rattle.clu_cert.specs.declared.reader.Stage.{Stage}
 use Rattle.clu_cert.specs.declared.reader.Stage.TheVariants as at
 use Rattle.clu_cert.specs.declared.reader.Reader.{Reader}
-use Rattle.clu_cert.specs.Fits.{IsPlace, StepFits, RowFits, ItemFits, ProofFits, Fits}
+use Rattle.clu_cert.specs.Fits.{IndexFits, StepFits, RowFits, ItemFits, ProofFits, Fits}
 use Rattle.clu_cert.specs.Text.{count_line, whole_line, numbers_line, objective_line, row_line, item_lines, lines_from_part, lines_from_step, lines_from_steps, lines_from_value, cert_lines}
 
 -- the root steps and the proofs are in range
@@ -33,7 +33,7 @@ pub record ValueLeft (n : ℕ) (cert c : Certificate) (more : List (List (List �
   pub count : length c.labels ≡ n
   pub value : unsigned_abs c.value ≤ 2 ^ 126
   pub bound : unsigned_abs c.bound ≤ 2 ^ 126
-  pub labels : AllByRecursion IsPlace c.labels
+  pub labels : AllByRecursion IndexFits c.labels
   pub rest : StepsFit c
   pub lines : more ≡ lines_from_value c
 
@@ -42,7 +42,7 @@ pub record BoundLeft (n : ℕ) (cert c : Certificate) (more : List (List (List �
   pub value : c.value ≡ cert.value
   pub count : length c.labels ≡ n
   pub bound : unsigned_abs c.bound ≤ 2 ^ 126
-  pub labels : AllByRecursion IsPlace c.labels
+  pub labels : AllByRecursion IndexFits c.labels
   pub rest : StepsFit c
   pub lines : more ≡ whole_line (codes "bound") c.bound ∷ numbers_line (codes "blocks") c.labels ∷ lines_from_steps c
 
@@ -51,25 +51,25 @@ pub record BlocksLeft (n : ℕ) (cert c : Certificate) (more : List (List (List 
   pub value : c.value ≡ cert.value
   pub bound : c.bound ≡ cert.bound
   pub count : length c.labels ≡ n
-  pub labels : AllByRecursion IsPlace c.labels
+  pub labels : AllByRecursion IndexFits c.labels
   pub rest : StepsFit c
   pub lines : more ≡ numbers_line (codes "blocks") c.labels ∷ lines_from_steps c
 
 -- what stands before the steps is read
-pub record Head (cert c : Certificate) : Type 0 where
+pub record SameHead (cert c : Certificate) : Type 0 where
   pub objective : c.objective ≡ cert.objective
   pub value : c.value ≡ cert.value
   pub bound : c.bound ≡ cert.bound
   pub labels : c.labels ≡ cert.labels
 
 pub record StepsLeft (cert c : Certificate) (more : List (List (List ℕ))) : Type 0 where
-  pub head : Head cert c
+  pub head : SameHead cert c
   pub rest : StepsFit c
   pub lines : more ≡ lines_from_steps c
 
 -- so many steps are left
 pub record StepLeft (left : ℕ) (cert c : Certificate) (more : List (List (List ℕ))) : Type 0 where
-  pub head : Head cert c
+  pub head : SameHead cert c
   pub steps : List Step
   pub steps_are : c.root_steps ≡ cert.root_steps ++ steps
   pub count : length steps ≡ left
@@ -80,7 +80,7 @@ pub record StepLeft (left : ℕ) (cert c : Certificate) (more : List (List (List
 
 -- so many parts are left
 pub record PartLeft (left : ℕ) (cert c : Certificate) (more : List (List (List ℕ))) : Type 0 where
-  pub head : Head cert c
+  pub head : SameHead cert c
   pub steps_are : c.root_steps ≡ cert.root_steps
   pub proofs : List Proof
   pub proofs_are : c.proofs ≡ cert.proofs ++ proofs
@@ -94,7 +94,7 @@ lines_from_item is ps = flat_map item_lines is ++ lines_from_part ps
 
 -- the line `part` is read, and so many parts follow
 pub record ItemsLeft (parts : ℕ) (cert : Certificate) (part : Proof) (c : Certificate) (more : List (List (List ℕ))) : Type 0 where
-  pub head : Head cert c
+  pub head : SameHead cert c
   pub steps_are : c.root_steps ≡ cert.root_steps
   pub items : List Item
   pub proofs : List Proof
@@ -107,7 +107,7 @@ pub record ItemsLeft (parts : ℕ) (cert : Certificate) (part : Proof) (c : Cert
 
 -- so many items of the part are left
 pub record ItemLeft (parts left : ℕ) (cert : Certificate) (part : Proof) (c : Certificate) (more : List (List (List ℕ))) : Type 0 where
-  pub head : Head cert c
+  pub head : SameHead cert c
   pub steps_are : c.root_steps ≡ cert.root_steps
   pub items : List Item
   pub proofs : List Proof
@@ -121,7 +121,7 @@ pub record ItemLeft (parts left : ℕ) (cert : Certificate) (part : Proof) (c : 
 -- so many rows of the leaf are left
 pub record RowLeft (parts later left : ℕ) (cert : Certificate) (part : Proof) (leaf : Leaf) (c : Certificate)
     (more : List (List (List ℕ))) : Type 0 where
-  pub head : Head cert c
+  pub head : SameHead cert c
   pub steps_are : c.root_steps ≡ cert.root_steps
   pub rows : List TwoSet
   pub items : List Item
@@ -159,12 +159,12 @@ abbrev pub Completes : Reader → Certificate → List (List (List ℕ)) → Typ
 Completes r c more = AtStage r.stage r.cert r.part r.leaf c more
 
 -- after the line the reader is new, whatever the text
-abbrev pub Follows : Reader → List (List ℕ) → Reader → Type 0
-Follows old line new = (c : Certificate) (more : List (List (List ℕ))) → Completes old c (line ∷ more) ↔ Completes new c more
+abbrev pub TakesLine : Reader → List (List ℕ) → Reader → Type 0
+TakesLine old line new = (c : Certificate) (more : List (List (List ℕ))) → Completes old c (line ∷ more) ↔ Completes new c more
 
 -- the line completes nothing here
-abbrev pub Refuses : Reader → List (List ℕ) → Type 0
-Refuses r line = (c : Certificate) (more : List (List (List ℕ))) → Completes r c (line ∷ more) → ⊥
+abbrev pub RefusesLine : Reader → List (List ℕ) → Type 0
+RefusesLine r line = (c : Certificate) (more : List (List (List ℕ))) → Completes r c (line ∷ more) → ⊥
 
 -- what may follow stays
 abbrev pub MeansTheSame : Reader → Reader → Type 0

@@ -100,5 +100,5 @@ abbrev pub text_of : List (List (List ℕ)) → List ℕ
 text_of lines = flat_map line_text lines
 
 -- the text of a certificate
-abbrev pub text : Certificate → List ℕ
-text c = text_of (cert_lines c)
+abbrev pub cert_text : Certificate → List ℕ
+cert_text c = text_of (cert_lines c)

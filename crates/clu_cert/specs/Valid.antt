@@ -10,8 +10,8 @@ use Rattle.clu_objective.specs.Problem.{Posed, printed, IsBetterOrEqual}
 use Rattle.clu_state.specs.State.{State, undecided}
 use Rattle.clu_state.specs.declared.decision.Decision.{Decision}
 use Rattle.clu_reduce.specs.Reduction.{decision_of}
-pub use Rattle.clu_reduce.specs.Steps.{AllHold, stepped}
-pub use Rattle.clu_reduce.specs.Parts.{Rises, Lacks, IsPart, AllParts, Cover, is_in}
+pub use Rattle.clu_reduce.specs.Steps.{StepsHold, stepped}
+pub use Rattle.clu_reduce.specs.Parts.{Rises, IsOutside, IsPart, AllParts, Cover, is_in}
 use Rattle.clu_reduce.specs.declared.step.Step.{Step}
 use Rattle.clu_cert.specs.Upper.{HasUpper}
 use Rattle.clu_cert.specs.declared.certificate.Certificate.{Certificate}
@@ -24,12 +24,12 @@ pub record HasShape (problem : Posed) (cert : Certificate) : Type 0 where
   pub one_each : length cert.labels ≡ problem.pairs.n
 
 -- the two vertices share a block where the rules tie them, and don't where the rules keep their groups apart
-pub record Obeys (start : Closed) (labels : List ℕ) (u v : ℕ) : Type 0 where
+pub record ObeysAt (start : Closed) (labels : List ℕ) (u v : ℕ) : Type 0 where
   pub tied : slice_index start.group u ≡ slice_index start.group v → slice_index labels u ≡ slice_index labels v
   pub apart : joins (slice_index start.group) start.forbidden u v ≡ true → slice_index labels u ≡ slice_index labels v → ⊥
 
 abbrev pub ObeyRules : ℕ → Closed → List ℕ → Type 0
-ObeyRules n start labels = (u v : ℕ) → u < v → v < n → Obeys start labels u v
+ObeyRules n start labels = (u v : ℕ) → u < v → v < n → ObeysAt start labels u v
 
 -- the printed objective of the labels
 abbrev pub printed_value : Posed → List ℕ → ℤ
@@ -37,8 +37,8 @@ printed_value problem labels = printed problem (value_on (weight_of problem.pair
 
 -- ---- the root
 -- the state of all vertices without decisions
-abbrev pub whole : Posed → Closed → State
-whole problem start = undecided problem.pairs start (below problem.pairs.n)
+abbrev pub whole_state : Posed → Closed → State
+whole_state problem start = undecided problem.pairs start (below problem.pairs.n)
 
 -- ---- the parts
 abbrev pub parts_of : Certificate → List (List ℕ)
@@ -73,9 +73,9 @@ pub record IsValid (problem : Posed) (start : Closed) (cert : Certificate) : Typ
   pub partition : IsPartition problem.pairs.n cert.labels
   pub rules : ObeyRules problem.pairs.n start cert.labels
   pub value : cert.value ≡ printed_value problem cert.labels
-  pub steps : AllHold (whole problem start) cert.root_steps
-  pub parts : AllParts (stepped (whole problem start) cert.root_steps) [] (parts_of cert)
-  pub cover : Cover (stepped (whole problem start) cert.root_steps) (parts_of cert)
+  pub steps : StepsHold (whole_state problem start) cert.root_steps
+  pub parts : AllParts (stepped (whole_state problem start) cert.root_steps) [] (parts_of cert)
+  pub cover : Cover (stepped (whole_state problem start) cert.root_steps) (parts_of cert)
   pub uppers : List ℤ
   pub proved : HaveUppers problem start cert.root_steps cert.proofs uppers
   pub bound : IsBetterOrEqual problem.objective cert.bound (proved_bound problem uppers)

@@ -3,7 +3,7 @@
 
 ghost use Rattle.std.specs.Prelude.{◌≡◌, ◌<◌, ◌≤◌, [], ◌∷◌, length, drop, MatchOption, IfSome};
 ghost use Rattle.std.specs.List.{position_or_len, slice_split};
-ghost use Rattle.clu_cert.specs.Cut.{is_byte, fields_in};
+ghost use Rattle.clu_cert.specs.Cut.{is_byte, spaced_fields};
 
 use memchr::memchr;
 use std::marker::Model;
@@ -58,7 +58,7 @@ pub fn cut(bytes: &[u8], by: u8) -> Option<(&[u8], &[u8])>
 
 /// The fields of a line.
 pub fn fields_of<'a>(line: &'a [u8]) -> Fields<'a>
-    ensures { result ≡ fields_in line.now }
+    ensures { result ≡ spaced_fields line.now }
 {
     Fields { rest: Some(line) }
 }

@@ -2,10 +2,10 @@
 //! value has this spelling.
 
 ghost use Rattle.std.specs.Prelude.{◌≡◌, ◌≤◌, ◌^◌, ◌↔◌, ℕ, List, [], ◌∷◌, IsTrue, MatchOption, unsigned_abs};
-ghost use Rattle.clu_cert.specs.Cut.{fields_in};
-ghost use Rattle.clu_cert.specs.Reads.{Reads};
+ghost use Rattle.clu_cert.specs.Cut.{spaced_fields};
+ghost use Rattle.clu_cert.specs.Reads.{ReadsSpelling};
 ghost use Rattle.clu_cert.specs.Text.{from_one, kind_word, objective_line, count_line, whole_line, step_line, version_line, end_line};
-ghost use Rattle.clu_cert.specs.Fits.{IsPlace, StepFits};
+ghost use Rattle.clu_cert.specs.Fits.{IndexFits, StepFits};
 
 use crate::cut::{Fields, fields_of};
 use crate::numbers::{read_long, read_small, read_whole};
@@ -22,7 +22,7 @@ pub fn is_word(field: &[u8], word: &[u8]) -> bool
 
 /// A number from 1 to 1,000, as it stands inside.
 pub fn read_place(field: &[u8]) -> Option<u32>
-    ensures { Reads from_one IsPlace field.now result }
+    ensures { ReadsSpelling from_one IndexFits field.now result }
 {
     let n = read_small(field)?;
     if n == 0 || n > 1000 {
@@ -33,7 +33,7 @@ pub fn read_place(field: &[u8]) -> Option<u32>
 
 /// The kind of a step.
 pub fn read_kind(field: &[u8]) -> Option<Kind>
-    ensures { Reads kind_word (λ _. Unit {0}) field.now result }
+    ensures { ReadsSpelling kind_word (λ _. Unit {0}) field.now result }
 {
     if is_word(field, b"twin") {
         Some(Kind::Twin)
@@ -51,8 +51,8 @@ pub fn read_kind(field: &[u8]) -> Option<Kind>
 /// The field behind the word, where the line has no other.
 fn behind_word<'a>(line: &'a [u8], word: &[u8]) -> Option<&'a [u8]>
     ensures { MatchOption result
-        ((field : List ℕ) → fields_in line.now ≡ word.now ∷ field ∷ [] → ⊥)
-        (λ field. fields_in line.now ≡ word.now ∷ field.now ∷ []) }
+        ((field : List ℕ) → spaced_fields line.now ≡ word.now ∷ field ∷ [] → ⊥)
+        (λ field. spaced_fields line.now ≡ word.now ∷ field.now ∷ []) }
 {
     let mut rest = fields_of(line);
     let first = rest.next()?;
@@ -66,8 +66,8 @@ fn behind_word<'a>(line: &'a [u8], word: &[u8]) -> Option<&'a [u8]>
 /// The fields of a line that has three.
 pub fn three_fields(line: &[u8]) -> Option<(&[u8], &[u8], &[u8])>
     ensures { MatchOption result
-        ((f g h : List ℕ) → fields_in line.now ≡ f ∷ g ∷ h ∷ [] → ⊥)
-        (λ three. fields_in line.now ≡ three.0.now ∷ three.1.now ∷ three.2.now ∷ []) }
+        ((f g h : List ℕ) → spaced_fields line.now ≡ f ∷ g ∷ h ∷ [] → ⊥)
+        (λ three. spaced_fields line.now ≡ three.0.now ∷ three.1.now ∷ three.2.now ∷ []) }
 {
     let mut rest = fields_of(line);
     let first = rest.next()?;
@@ -81,7 +81,7 @@ pub fn three_fields(line: &[u8]) -> Option<(&[u8], &[u8], &[u8])>
 
 /// A line of a word and a count that is at most `most`.
 pub fn read_count(line: &[u8], word: &[u8], most: u64) -> Option<u64>
-    ensures { Reads (count_line word.now) (λ n. n ≤ most) (fields_in line.now) result }
+    ensures { ReadsSpelling (count_line word.now) (λ n. n ≤ most) (spaced_fields line.now) result }
 {
     let field = behind_word(line, word)?;
     let n = read_long(field)?;
@@ -93,7 +93,7 @@ pub fn read_count(line: &[u8], word: &[u8], most: u64) -> Option<u64>
 
 /// A line of a word and a whole number.
 pub fn read_value(line: &[u8], word: &[u8]) -> Option<i128>
-    ensures { Reads (whole_line word.now) (λ z. unsigned_abs z ≤ 2 ^ 126) (fields_in line.now) result }
+    ensures { ReadsSpelling (whole_line word.now) (λ z. unsigned_abs z ≤ 2 ^ 126) (spaced_fields line.now) result }
 {
     let field = behind_word(line, word)?;
     read_whole(field)
@@ -101,7 +101,7 @@ pub fn read_value(line: &[u8], word: &[u8]) -> Option<i128>
 
 /// The line `objective`.
 pub fn read_objective(line: &[u8]) -> Option<Objective>
-    ensures { Reads objective_line (λ _. Unit {0}) (fields_in line.now) result }
+    ensures { ReadsSpelling objective_line (λ _. Unit {0}) (spaced_fields line.now) result }
 {
     let Some(field) = behind_word(line, b"objective") else {
         return None;
@@ -119,7 +119,7 @@ pub fn read_objective(line: &[u8]) -> Option<Objective>
 
 /// Whether the line is the first of a certificate.
 pub fn is_version(line: &[u8]) -> bool
-    ensures { IsTrue result ↔ (fields_in line.now ≡ version_line) }
+    ensures { IsTrue result ↔ (spaced_fields line.now ≡ version_line) }
 {
     match behind_word(line, b"clucert") {
         Some(field) => is_word(field, b"1"),
@@ -129,7 +129,7 @@ pub fn is_version(line: &[u8]) -> bool
 
 /// Whether the line is the last of a certificate.
 pub fn is_end(line: &[u8]) -> bool
-    ensures { IsTrue result ↔ (fields_in line.now ≡ end_line) }
+    ensures { IsTrue result ↔ (spaced_fields line.now ≡ end_line) }
 {
     let mut rest = fields_of(line);
     match rest.next() {
@@ -140,7 +140,7 @@ pub fn is_end(line: &[u8]) -> bool
 
 /// The line of a root step.
 pub fn read_step(line: &[u8]) -> Option<Step>
-    ensures { Reads step_line StepFits (fields_in line.now) result }
+    ensures { ReadsSpelling step_line StepFits (spaced_fields line.now) result }
 {
     let (word, one, two) = three_fields(line)?;
     let kind = read_kind(word)?;

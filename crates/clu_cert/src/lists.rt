@@ -3,11 +3,11 @@
 
 ghost use Rattle.std.specs.Prelude.{◌≡◌, ◌+◌, ℕ, List, [], ◌∷◌, ◌++◌, map, codes, IfOk, OnOk, IsErrOf, IsNone, IfSome};
 ghost use Rattle.std.specs.List.{AllByRecursion};
-ghost use Rattle.clu_cert.specs.Cut.{fields_in};
-ghost use Rattle.clu_cert.specs.Reads.{ReadsOr, Reads};
+ghost use Rattle.clu_cert.specs.Cut.{spaced_fields};
+ghost use Rattle.clu_cert.specs.Reads.{ReadsOr, ReadsSpelling};
 ghost use Rattle.clu_cert.specs.Text.{from_one, numbers_line, row_line};
 ghost use Rattle.clu_cert.specs.ItemLines.{item_line, ItemLineFits};
-ghost use Rattle.clu_cert.specs.Fits.{IsPlace, PartFits, RowFits};
+ghost use Rattle.clu_cert.specs.Fits.{IndexFits, PartFits, RowFits};
 
 use crate::cut::{Fields, fields_of};
 use crate::fault::Fault;
@@ -60,7 +60,7 @@ impl RowLine {
 
 /// The labels that the fields are.
 fn labels_left(alloc: Global, rest: &mut Fields) -> Result<Seq<u32>, Fault>
-    ensures { ReadsOr (map from_one) (AllByRecursion IsPlace) rest.old result }
+    ensures { ReadsOr (map from_one) (AllByRecursion IndexFits) rest.old result }
 {
     let mut labels = Seq::new(alloc);
     while let Some(field) = rest.next() {
@@ -74,7 +74,7 @@ fn labels_left(alloc: Global, rest: &mut Fields) -> Result<Seq<u32>, Fault>
 
 /// The vertices that the fields are.
 fn vertices_left(alloc: Global, rest: &mut Fields) -> Result<Seq<Vertex>, Fault>
-    ensures { ReadsOr (map from_one) (AllByRecursion IsPlace) rest.old result }
+    ensures { ReadsOr (map from_one) (AllByRecursion IndexFits) rest.old result }
 {
     let mut vertices = Seq::new(alloc);
     while let Some(field) = rest.next() {
@@ -89,11 +89,11 @@ fn vertices_left(alloc: Global, rest: &mut Fields) -> Result<Seq<Vertex>, Fault>
 /// The vertices before the slash, which is taken too.
 fn before_slash(alloc: Global, rest: &mut Fields) -> Result<Seq<Vertex>, Fault>
     ensures ok { IfOk result
-        (λ s. AllByRecursion IsPlace s × (rest.old ≡ map from_one s ++ (codes "/" ∷ rest.new))) }
+        (λ s. AllByRecursion IndexFits s × (rest.old ≡ map from_one s ++ (codes "/" ∷ rest.new))) }
     ensures only { IfOk result
-        (λ s. (ns : List ℕ) (t : List (List ℕ)) → AllByRecursion IsPlace ns
+        (λ s. (ns : List ℕ) (t : List (List ℕ)) → AllByRecursion IndexFits ns
         → rest.old ≡ map from_one ns ++ (codes "/" ∷ t) → (ns ≡ s) × (t ≡ rest.new)) }
-    ensures bad { IsErrOf result Fault.Bad → (ns : List ℕ) (t : List (List ℕ)) → AllByRecursion IsPlace ns
+    ensures bad { IsErrOf result Fault.Bad → (ns : List ℕ) (t : List (List ℕ)) → AllByRecursion IndexFits ns
         → rest.old ≡ map from_one ns ++ (codes "/" ∷ t) → ⊥ }
 {
     let mut vertices = Seq::new(alloc);
@@ -111,8 +111,8 @@ fn before_slash(alloc: Global, rest: &mut Fields) -> Result<Seq<Vertex>, Fault>
 
 /// The fields behind the word that begins the line.
 fn behind<'a>(line: &'a [u8], word: &[u8]) -> Option<Fields<'a>>
-    ensures none { IsNone result → (t : List (List ℕ)) → fields_in line.now ≡ word.now ∷ t → ⊥ }
-    ensures some { IfSome result (λ rest. fields_in line.now ≡ word.now ∷ rest) }
+    ensures none { IsNone result → (t : List (List ℕ)) → spaced_fields line.now ≡ word.now ∷ t → ⊥ }
+    ensures some { IfSome result (λ rest. spaced_fields line.now ≡ word.now ∷ rest) }
 {
     let mut rest = fields_of(line);
     let first = rest.next()?;
@@ -124,7 +124,7 @@ fn behind<'a>(line: &'a [u8], word: &[u8]) -> Option<Fields<'a>>
 
 /// The line `blocks`.
 pub fn read_labels(alloc: Global, line: &[u8]) -> Result<Seq<u32>, Fault>
-    ensures { ReadsOr (numbers_line (codes "blocks")) (AllByRecursion IsPlace) (fields_in line.now) result }
+    ensures { ReadsOr (numbers_line (codes "blocks")) (AllByRecursion IndexFits) (spaced_fields line.now) result }
 {
     let Some(mut rest) = behind(line, b"blocks") else {
         return Err(Fault::Bad);
@@ -135,7 +135,7 @@ pub fn read_labels(alloc: Global, line: &[u8]) -> Result<Seq<u32>, Fault>
 
 /// The line `part`.
 pub fn read_part(alloc: Global, line: &[u8]) -> Result<Seq<Vertex>, Fault>
-    ensures { ReadsOr (numbers_line (codes "part")) PartFits (fields_in line.now) result }
+    ensures { ReadsOr (numbers_line (codes "part")) PartFits (spaced_fields line.now) result }
 {
     let Some(mut rest) = behind(line, b"part") else {
         return Err(Fault::Bad);
@@ -149,7 +149,7 @@ pub fn read_part(alloc: Global, line: &[u8]) -> Result<Seq<Vertex>, Fault>
 
 /// The line `row`.
 pub fn read_row(alloc: Global, line: &[u8]) -> Result<RowLine, Fault>
-    ensures { ReadsOr row_line RowFits (fields_in line.now) result }
+    ensures { ReadsOr row_line RowFits (spaced_fields line.now) result }
 {
     let Some(mut rest) = behind(line, b"row") else {
         return Err(Fault::Bad);
@@ -170,7 +170,7 @@ pub fn read_row(alloc: Global, line: &[u8]) -> Result<RowLine, Fault>
 
 /// The first line of an item.
 pub fn read_item(line: &[u8]) -> Option<ItemLine>
-    ensures { Reads item_line ItemLineFits (fields_in line.now) result }
+    ensures { ReadsSpelling item_line ItemLineFits (spaced_fields line.now) result }
 {
     let (word, one, two) = three_fields(line)?;
     if is_word(word, b"leaf") {

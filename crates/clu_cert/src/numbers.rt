@@ -3,7 +3,7 @@
 
 ghost use Rattle.std.specs.Prelude.{pos, neg_ℤ, ◌∷◌, slice_index, MatchOption, ◌≡◌, ◌<◌, ◌≤◌, ◌^◌, ◌↔◌, IsTrue, length, unsigned_abs};
 ghost use Rattle.std.specs.Fmt.{decimal, signed_decimal};
-ghost use Rattle.clu_cert.specs.Reads.{Reads};
+ghost use Rattle.clu_cert.specs.Reads.{ReadsSpelling};
 
 use clu_text::{read_u32, read_u64, read_u128};
 
@@ -19,7 +19,7 @@ fn has_leading_zero(field: &[u8]) -> bool
 /// The number of 32 bits that the field writes without a leading zero.
 #[tactic(auto, using(crate::proofs::Plain::reads_u32))]
 pub fn read_small(field: &[u8]) -> Option<u32>
-    ensures { Reads decimal (λ n. n < 2 ^ 32) field.now result }
+    ensures { ReadsSpelling decimal (λ n. n < 2 ^ 32) field.now result }
 {
     if has_leading_zero(field) {
         None
@@ -31,7 +31,7 @@ pub fn read_small(field: &[u8]) -> Option<u32>
 /// The same of 64 bits.
 #[tactic(auto, using(crate::proofs::Plain::reads_u64))]
 pub fn read_long(field: &[u8]) -> Option<u64>
-    ensures { Reads decimal (λ n. n < 2 ^ 64) field.now result }
+    ensures { ReadsSpelling decimal (λ n. n < 2 ^ 64) field.now result }
 {
     if has_leading_zero(field) {
         None
@@ -43,7 +43,7 @@ pub fn read_long(field: &[u8]) -> Option<u64>
 /// The same of 128 bits.
 #[tactic(auto, using(crate::proofs::Plain::reads_u128))]
 pub fn read_number(field: &[u8]) -> Option<u128>
-    ensures { Reads decimal (λ n. n < 2 ^ 128) field.now result }
+    ensures { ReadsSpelling decimal (λ n. n < 2 ^ 128) field.now result }
 {
     if has_leading_zero(field) {
         None
@@ -78,7 +78,7 @@ fn positive(size: u128) -> i128
 
 /// The whole number of at most 2^126 that the field writes.
 pub fn read_whole(field: &[u8]) -> Option<i128>
-    ensures { Reads signed_decimal (λ z. unsigned_abs z ≤ 2 ^ 126) field.now result }
+    ensures { ReadsSpelling signed_decimal (λ z. unsigned_abs z ≤ 2 ^ 126) field.now result }
 {
     match after_minus(field) {
         Some(rest) => {

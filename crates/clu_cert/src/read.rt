@@ -2,11 +2,11 @@
 //! that no text of a certificate has there.
 
 ghost use Rattle.std.specs.Prelude.{◌≡◌, IfOk, IfErr};
-ghost use Rattle.clu_cert.specs.Table.{IsTable, TableFaulty};
-ghost use Rattle.clu_cert.specs.Faults.{Faulty};
+ghost use Rattle.clu_cert.specs.Table.{IsCertTable, IsTableError};
+ghost use Rattle.clu_cert.specs.Faults.{IsCertError};
 ghost use Rattle.clu_cert.specs.Fits.{Fits};
 ghost use Rattle.clu_cert.specs.declared.certificate.Certificate.{Certificate};
-ghost use Rattle.clu_cert.specs.Text.{text};
+ghost use Rattle.clu_cert.specs.Text.{cert_text};
 
 use crate::certificate::Certificate;
 use crate::cut::cut;
@@ -32,9 +32,9 @@ pub enum CertError {
 
 /// The certificate whose lines these are.
 fn read_table(alloc: Global, bytes: &[u8]) -> Result<Certificate, CertError>
-    ensures found { IfOk result (λ c. IsTable bytes.now c) }
-    ensures only { IfOk result (λ c. (d : Certificate) → IsTable bytes.now d → d ≡ c) }
-    ensures bad { IfErr result (λ e. TableFaulty bytes.now e) }
+    ensures found { IfOk result (λ c. IsCertTable bytes.now c) }
+    ensures only { IfOk result (λ c. (d : Certificate) → IsCertTable bytes.now d → d ≡ c) }
+    ensures bad { IfErr result (λ e. IsTableError bytes.now e) }
 {
     let mut reader = Reader::new(alloc);
     let mut rest = bytes;
@@ -57,9 +57,9 @@ fn read_table(alloc: Global, bytes: &[u8]) -> Result<Certificate, CertError>
 
 /// The certificate of a text, or the first line that can't stand where it stands.
 pub fn read_cert(alloc: Global, bytes: &[u8]) -> Result<Certificate, CertError>
-    ensures found { IfOk result (λ c. Fits c × (bytes.now ≡ text c)) }
-    ensures only { IfOk result (λ c. (d : Certificate) → Fits d → bytes.now ≡ text d → d ≡ c) }
-    ensures bad { IfErr result (λ e. Faulty bytes.now e) }
+    ensures found { IfOk result (λ c. Fits c × (bytes.now ≡ cert_text c)) }
+    ensures only { IfOk result (λ c. (d : Certificate) → Fits d → bytes.now ≡ cert_text d → d ≡ c) }
+    ensures bad { IfErr result (λ e. IsCertError bytes.now e) }
 {
     read_table(alloc, bytes)
 }

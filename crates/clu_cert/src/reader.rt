@@ -2,8 +2,8 @@
 //! whose contracts say which texts may follow.
 
 ghost use Rattle.std.specs.Prelude.{◌≡◌, ◌↔◌, suc, OnOk, IsErrOf, IsTrue};
-ghost use Rattle.clu_cert.specs.Cut.{fields_in};
-ghost use Rattle.clu_cert.specs.Reading.{Follows, Refuses, MeansTheSame};
+ghost use Rattle.clu_cert.specs.Cut.{spaced_fields};
+ghost use Rattle.clu_cert.specs.Reading.{TakesLine, RefusesLine, MeansTheSame};
 ghost use Rattle.clu_cert.specs.declared.reader.Stage.TheVariants as at;
 
 use crate::certificate::{Certificate, Item, Proof};
@@ -95,8 +95,8 @@ impl Reader {
 
     fn take_version(&mut self, line: &[u8]) -> Result<(), Fault>
         requires { self.old.stage ≡ at.Version }
-        ensures ok { OnOk result (Follows self.old (fields_in line.now) self.new) }
-        ensures bad { IsErrOf result Fault.Bad → Refuses self.old (fields_in line.now) }
+        ensures ok { OnOk result (TakesLine self.old (spaced_fields line.now) self.new) }
+        ensures bad { IsErrOf result Fault.Bad → RefusesLine self.old (spaced_fields line.now) }
     {
         if !is_version(line) {
             return Err(Fault::Bad);
@@ -107,8 +107,8 @@ impl Reader {
 
     fn take_objective(&mut self, line: &[u8]) -> Result<(), Fault>
         requires { self.old.stage ≡ at.Objective }
-        ensures ok { OnOk result (Follows self.old (fields_in line.now) self.new) }
-        ensures bad { IsErrOf result Fault.Bad → Refuses self.old (fields_in line.now) }
+        ensures ok { OnOk result (TakesLine self.old (spaced_fields line.now) self.new) }
+        ensures bad { IsErrOf result Fault.Bad → RefusesLine self.old (spaced_fields line.now) }
     {
         let Some(objective) = read_objective(line) else {
             return Err(Fault::Bad);
@@ -120,8 +120,8 @@ impl Reader {
 
     fn take_vertices(&mut self, line: &[u8]) -> Result<(), Fault>
         requires { self.old.stage ≡ at.Vertices }
-        ensures ok { OnOk result (Follows self.old (fields_in line.now) self.new) }
-        ensures bad { IsErrOf result Fault.Bad → Refuses self.old (fields_in line.now) }
+        ensures ok { OnOk result (TakesLine self.old (spaced_fields line.now) self.new) }
+        ensures bad { IsErrOf result Fault.Bad → RefusesLine self.old (spaced_fields line.now) }
     {
         let Some(n) = read_count(line, b"vertices", 1000) else {
             return Err(Fault::Bad);
@@ -132,8 +132,8 @@ impl Reader {
 
     fn take_value(&mut self, n: u64, line: &[u8]) -> Result<(), Fault>
         requires { self.old.stage ≡ at.Value n }
-        ensures ok { OnOk result (Follows self.old (fields_in line.now) self.new) }
-        ensures bad { IsErrOf result Fault.Bad → Refuses self.old (fields_in line.now) }
+        ensures ok { OnOk result (TakesLine self.old (spaced_fields line.now) self.new) }
+        ensures bad { IsErrOf result Fault.Bad → RefusesLine self.old (spaced_fields line.now) }
     {
         let Some(value) = read_value(line, b"value") else {
             return Err(Fault::Bad);
@@ -145,8 +145,8 @@ impl Reader {
 
     fn take_bound(&mut self, n: u64, line: &[u8]) -> Result<(), Fault>
         requires { self.old.stage ≡ at.Bound n }
-        ensures ok { OnOk result (Follows self.old (fields_in line.now) self.new) }
-        ensures bad { IsErrOf result Fault.Bad → Refuses self.old (fields_in line.now) }
+        ensures ok { OnOk result (TakesLine self.old (spaced_fields line.now) self.new) }
+        ensures bad { IsErrOf result Fault.Bad → RefusesLine self.old (spaced_fields line.now) }
     {
         let Some(bound) = read_value(line, b"bound") else {
             return Err(Fault::Bad);
@@ -158,8 +158,8 @@ impl Reader {
 
     fn take_blocks(&mut self, alloc: Global, n: u64, line: &[u8]) -> Result<(), Fault>
         requires { self.old.stage ≡ at.Blocks n }
-        ensures ok { OnOk result (Follows self.old (fields_in line.now) self.new) }
-        ensures bad { IsErrOf result Fault.Bad → Refuses self.old (fields_in line.now) }
+        ensures ok { OnOk result (TakesLine self.old (spaced_fields line.now) self.new) }
+        ensures bad { IsErrOf result Fault.Bad → RefusesLine self.old (spaced_fields line.now) }
     {
         let labels = read_labels(alloc, line)?;
         if labels.len() as u64 != n {
@@ -172,8 +172,8 @@ impl Reader {
 
     fn take_steps(&mut self, alloc: Global, line: &[u8]) -> Result<(), Fault>
         requires { self.old.stage ≡ at.Steps }
-        ensures ok { OnOk result (Follows self.old (fields_in line.now) self.new) }
-        ensures bad { IsErrOf result Fault.Bad → Refuses self.old (fields_in line.now) }
+        ensures ok { OnOk result (TakesLine self.old (spaced_fields line.now) self.new) }
+        ensures bad { IsErrOf result Fault.Bad → RefusesLine self.old (spaced_fields line.now) }
     {
         let Some(left) = read_count(line, b"steps", u64::MAX) else {
             return Err(Fault::Bad);
@@ -185,8 +185,8 @@ impl Reader {
 
     fn take_step(&mut self, left: u64, line: &[u8]) -> Result<(), Fault>
         requires { self.old.stage ≡ at.Step (suc left) }
-        ensures ok { OnOk result (Follows self.old (fields_in line.now) self.new) }
-        ensures bad { IsErrOf result Fault.Bad → Refuses self.old (fields_in line.now) }
+        ensures ok { OnOk result (TakesLine self.old (spaced_fields line.now) self.new) }
+        ensures bad { IsErrOf result Fault.Bad → RefusesLine self.old (spaced_fields line.now) }
     {
         let Some(step) = read_step(line) else {
             return Err(Fault::Bad);
@@ -198,8 +198,8 @@ impl Reader {
 
     fn take_parts(&mut self, alloc: Global, line: &[u8]) -> Result<(), Fault>
         requires { self.old.stage ≡ at.Step 0 }
-        ensures ok { OnOk result (Follows self.old (fields_in line.now) self.new) }
-        ensures bad { IsErrOf result Fault.Bad → Refuses self.old (fields_in line.now) }
+        ensures ok { OnOk result (TakesLine self.old (spaced_fields line.now) self.new) }
+        ensures bad { IsErrOf result Fault.Bad → RefusesLine self.old (spaced_fields line.now) }
     {
         let Some(left) = read_count(line, b"parts", u64::MAX) else {
             return Err(Fault::Bad);
@@ -211,8 +211,8 @@ impl Reader {
 
     fn take_at_step(&mut self, alloc: Global, left: u64, line: &[u8]) -> Result<(), Fault>
         requires { self.old.stage ≡ at.Step left }
-        ensures ok { OnOk result (Follows self.old (fields_in line.now) self.new) }
-        ensures bad { IsErrOf result Fault.Bad → Refuses self.old (fields_in line.now) }
+        ensures ok { OnOk result (TakesLine self.old (spaced_fields line.now) self.new) }
+        ensures bad { IsErrOf result Fault.Bad → RefusesLine self.old (spaced_fields line.now) }
     {
         if left == 0 {
             self.take_parts(alloc, line)
@@ -223,8 +223,8 @@ impl Reader {
 
     fn take_part(&mut self, alloc: Global, left: u64, line: &[u8]) -> Result<(), Fault>
         requires { self.old.stage ≡ at.Part (suc left) }
-        ensures ok { OnOk result (Follows self.old (fields_in line.now) self.new) }
-        ensures bad { IsErrOf result Fault.Bad → Refuses self.old (fields_in line.now) }
+        ensures ok { OnOk result (TakesLine self.old (spaced_fields line.now) self.new) }
+        ensures bad { IsErrOf result Fault.Bad → RefusesLine self.old (spaced_fields line.now) }
     {
         let part = match read_part(alloc, line) {
             Ok(part) => part,
@@ -240,8 +240,8 @@ impl Reader {
 
     fn take_end(&mut self, line: &[u8]) -> Result<(), Fault>
         requires { self.old.stage ≡ at.Part 0 }
-        ensures ok { OnOk result (Follows self.old (fields_in line.now) self.new) }
-        ensures bad { IsErrOf result Fault.Bad → Refuses self.old (fields_in line.now) }
+        ensures ok { OnOk result (TakesLine self.old (spaced_fields line.now) self.new) }
+        ensures bad { IsErrOf result Fault.Bad → RefusesLine self.old (spaced_fields line.now) }
     {
         if !is_end(line) {
             return Err(Fault::Bad);
@@ -252,8 +252,8 @@ impl Reader {
 
     fn take_at_part(&mut self, alloc: Global, left: u64, line: &[u8]) -> Result<(), Fault>
         requires { self.old.stage ≡ at.Part left }
-        ensures ok { OnOk result (Follows self.old (fields_in line.now) self.new) }
-        ensures bad { IsErrOf result Fault.Bad → Refuses self.old (fields_in line.now) }
+        ensures ok { OnOk result (TakesLine self.old (spaced_fields line.now) self.new) }
+        ensures bad { IsErrOf result Fault.Bad → RefusesLine self.old (spaced_fields line.now) }
     {
         if left == 0 {
             self.take_end(line)
@@ -264,8 +264,8 @@ impl Reader {
 
     fn take_items(&mut self, alloc: Global, parts: u64, line: &[u8]) -> Result<(), Fault>
         requires { self.old.stage ≡ at.Items parts }
-        ensures ok { OnOk result (Follows self.old (fields_in line.now) self.new) }
-        ensures bad { IsErrOf result Fault.Bad → Refuses self.old (fields_in line.now) }
+        ensures ok { OnOk result (TakesLine self.old (spaced_fields line.now) self.new) }
+        ensures bad { IsErrOf result Fault.Bad → RefusesLine self.old (spaced_fields line.now) }
     {
         let Some(left) = read_count(line, b"items", u64::MAX) else {
             return Err(Fault::Bad);
@@ -277,8 +277,8 @@ impl Reader {
 
     fn take_item(&mut self, alloc: Global, parts: u64, left: u64, line: &[u8]) -> Result<(), Fault>
         requires { self.old.stage ≡ at.Item parts (suc left) }
-        ensures ok { OnOk result (Follows self.old (fields_in line.now) self.new) }
-        ensures bad { IsErrOf result Fault.Bad → Refuses self.old (fields_in line.now) }
+        ensures ok { OnOk result (TakesLine self.old (spaced_fields line.now) self.new) }
+        ensures bad { IsErrOf result Fault.Bad → RefusesLine self.old (spaced_fields line.now) }
     {
         let Some(item) = read_item(line) else {
             return Err(Fault::Bad);
@@ -329,8 +329,8 @@ impl Reader {
         line: &[u8],
     ) -> Result<(), Fault>
         requires { self.old.stage ≡ at.Item parts left }
-        ensures ok { OnOk result (Follows self.old (fields_in line.now) self.new) }
-        ensures bad { IsErrOf result Fault.Bad → Refuses self.old (fields_in line.now) }
+        ensures ok { OnOk result (TakesLine self.old (spaced_fields line.now) self.new) }
+        ensures bad { IsErrOf result Fault.Bad → RefusesLine self.old (spaced_fields line.now) }
     {
         if left == 0 {
             self.close_part(alloc, parts)?;
@@ -349,8 +349,8 @@ impl Reader {
         line: &[u8],
     ) -> Result<(), Fault>
         requires { self.old.stage ≡ at.Row parts later (suc left) }
-        ensures ok { OnOk result (Follows self.old (fields_in line.now) self.new) }
-        ensures bad { IsErrOf result Fault.Bad → Refuses self.old (fields_in line.now) }
+        ensures ok { OnOk result (TakesLine self.old (spaced_fields line.now) self.new) }
+        ensures bad { IsErrOf result Fault.Bad → RefusesLine self.old (spaced_fields line.now) }
     {
         let row = match read_row(alloc, line) {
             Ok(row) => row,
@@ -386,8 +386,8 @@ impl Reader {
         line: &[u8],
     ) -> Result<(), Fault>
         requires { self.old.stage ≡ at.Row parts later left }
-        ensures ok { OnOk result (Follows self.old (fields_in line.now) self.new) }
-        ensures bad { IsErrOf result Fault.Bad → Refuses self.old (fields_in line.now) }
+        ensures ok { OnOk result (TakesLine self.old (spaced_fields line.now) self.new) }
+        ensures bad { IsErrOf result Fault.Bad → RefusesLine self.old (spaced_fields line.now) }
     {
         if left == 0 {
             self.close_leaf(alloc, parts, later)?;
@@ -399,8 +399,8 @@ impl Reader {
 
     /// Takes the next line.
     pub fn take(&mut self, alloc: Global, line: &[u8]) -> Result<(), Fault>
-        ensures ok { OnOk result (Follows self.old (fields_in line.now) self.new) }
-        ensures bad { IsErrOf result Fault.Bad → Refuses self.old (fields_in line.now) }
+        ensures ok { OnOk result (TakesLine self.old (spaced_fields line.now) self.new) }
+        ensures bad { IsErrOf result Fault.Bad → RefusesLine self.old (spaced_fields line.now) }
     {
         match self.stage {
             Stage::Version => self.take_version(line),

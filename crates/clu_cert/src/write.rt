@@ -3,7 +3,7 @@
 
 ghost use Rattle.std.specs.Prelude.{◌≡◌, ◌+◌, ◌++◌, [], ◌∷◌, map, codes, OnOk, IfOk};
 ghost use Rattle.std.specs.List.{flat_map};
-ghost use Rattle.clu_cert.specs.Text.{from_one, kind_word, step_line, row_line, item_lines, proof_lines, objective_line, leaf_line, branch_line, count_line, whole_line, numbers_line, text_of, text};
+ghost use Rattle.clu_cert.specs.Text.{from_one, kind_word, step_line, row_line, item_lines, proof_lines, objective_line, leaf_line, branch_line, count_line, whole_line, numbers_line, text_of, cert_text};
 ghost use Rattle.clu_cert.specs.Fits.{Fits};
 ghost use Rattle.clu_cert.specs.Numbers.{numbers_text};
 
@@ -209,7 +209,7 @@ fn push_objective(out: &mut Vec<u8>, objective: Objective) -> Result<(), AllocEr
 /// The one text of the certificate.
 pub fn write_cert(alloc: Global, c: &Certificate) -> Result<Vec<u8>, AllocError>
     requires { Fits c.now }
-    ensures { IfOk result (λ v. v.items ≡ text c.now) }
+    ensures { IfOk result (λ v. v.items ≡ cert_text c.now) }
 {
     let mut out = Vec::new(alloc);
     out.extend_from_slice(b"clucert 1\n")?;

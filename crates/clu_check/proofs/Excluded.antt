@@ -3,21 +3,21 @@ use Rattle.std.proofs.Common.{◌≡◌, ◌≢◌, ℕ, ℤ, ⊎_elim, List, []
 use Rattle.clu_partition.specs.Closed.{Closed}
 use Rattle.clu_objective.specs.Problem.{Posed, IsBetterOrEqual}
 use Rattle.clu_state.specs.State.{State, decided}
-use Rattle.clu_reduce.specs.Reduction.{Holds, decision_of}
+use Rattle.clu_reduce.specs.Reduction.{StepHolds, decision_of}
 use Rattle.clu_reduce.specs.declared.step.Step.{Step}
 use Rattle.clu_cert.specs.declared.certificate.Certificate.{Certificate}
 use Rattle.clu_cert.specs.declared.certificate.Item.{Item}
 use Rattle.clu_cert.specs.declared.certificate.Proof.{Proof}
 use Rattle.clu_cert.specs.Upper.{HasUpper, IsBadStep, IsBadLeaf}
-use Rattle.clu_cert.specs.Valid.{IsValid, AllHold, stepped, whole, IsPart, AllParts, part_state, HaveUppers, proved_bound}
+use Rattle.clu_cert.specs.Valid.{IsValid, StepsHold, stepped, whole_state, IsPart, AllParts, part_state, HaveUppers, proved_bound}
 use Rattle.clu_cert.proofs.OneUpper.{uppers_once, no_bad_step, no_bad_leaf, no_early_end, no_going_on}
 use Rattle.clu_check.specs.Rejected.{IsFirstBadStep, IsFirstBadPart, ProofFails, ItemFails, TreeFails, IsRejected}
 use Rattle.clu_check.specs.declared.reject.Reject.{Reject}
 use Rattle.clu_check.specs.declared.reject.Reject.TheVariants.{Shape, Blocks, Rule, Value, Step as StepFault, Parts, Leaf, Unfinished, Bound, Memory}
 
 -- ---- a list of steps, parts or proofs that is cut in two
-pub held_next : (s : State) (before : List Step) (step : Step) (after : List Step) → AllHold s (before ++ step ∷ after) →
-    Holds (stepped s before) step
+pub held_next : (s : State) (before : List Step) (step : Step) (after : List Step) → StepsHold s (before ++ step ∷ after) →
+    StepHolds (stepped s before) step
 held_next s [] step after h = h.0
 held_next s (first ∷ before) step after h = held_next (decided s (decision_of first)) before step after h.1
 
@@ -36,8 +36,8 @@ upper_next problem start steps (first ∷ before) proof after [] h = absurd h
 upper_next problem start steps (first ∷ before) proof after (upper ∷ uppers) h = upper_next problem start steps before proof after uppers h.1
 
 -- ---- conditions that fail
-no_bad_root : (s : State) (steps : List Step) (number : ℕ) → IsFirstBadStep s steps number → AllHold s steps → ⊥
-no_bad_root s steps number f h = f.bad (held_next s f.before f.step f.after (subst (AllHold s) f.steps_are h))
+no_bad_root : (s : State) (steps : List Step) (number : ℕ) → IsFirstBadStep s steps number → StepsHold s steps → ⊥
+no_bad_root s steps number f h = f.bad (held_next s f.before f.step f.after (subst (StepsHold s) f.steps_are h))
 
 no_bad_part : (s : State) (parts : List (List ℕ)) (number : ℕ) → IsFirstBadPart s parts number → AllParts s [] parts → ⊥
 no_bad_part s parts number f a = f.bad (part_next s [] f.before f.part f.after (subst (AllParts s []) f.parts_are a))
@@ -58,12 +58,12 @@ rejected_invalid problem start cert Blocks r m valid = r.1 valid.partition
 rejected_invalid problem start cert (Rule u v) r m valid = r.1.broken (valid.rules u v r.1.ordered r.1.within)
 rejected_invalid problem start cert (Value found) r m valid = r.3 (r.2 ∙ sym valid.value)
 rejected_invalid problem start cert (StepFault item) r m valid = ⊎_elim
-    (λ k. no_bad_root (whole problem start) cert.root_steps item k.1 valid.steps)
+    (λ k. no_bad_root (whole_state problem start) cert.root_steps item k.1 valid.steps)
     (λ k. no_failed_proof problem start cert (ItemFails IsBadStep item)
     (λ s items earlier part upper f h. no_bad_step s items f.0 upper f.1 h) k.1 valid)
     r
 rejected_invalid problem start cert (Parts part) r m valid = ⊎_elim
-    (λ k. no_bad_part (stepped (whole problem start) cert.root_steps) (map (λ proof. proof.part) cert.proofs) part k valid.parts)
+    (λ k. no_bad_part (stepped (whole_state problem start) cert.root_steps) (map (λ proof. proof.part) cert.proofs) part k valid.parts)
     (λ k. k.missing valid.cover)
     r.1
 rejected_invalid problem start cert (Leaf item) r m valid =

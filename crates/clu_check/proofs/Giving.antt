@@ -4,10 +4,10 @@ use Rattle.std.proofs.Math.ListN.{set}
 use Rattle.std.proofs.lemmas.Bool.{cases_eq, eq-eqb, ne_eqb}
 use Rattle.std.proofs.lemmas.List.{take_more, get_or-set_same, get_or-set_other, length-set}
 use Rattle.clu_cert.specs.Valid.{is_in}
-use Rattle.clu_check.specs.Parts.{IsGiven}
+use Rattle.clu_check.specs.Parts.{TakesNumber}
 use Rattle.clu_check.proofs.Membership.{in_more}
 
-pub given_none : (number : ℕ) (owner : List ℕ) → IsGiven [] number owner owner
+pub given_none : (number : ℕ) (owner : List ℕ) → TakesNumber [] number owner owner
 given_none number owner = record { size = refl; cells = λ v l. refl }
 
 if_true : (b t : Bool) (number old now : ℕ) → t ≡ true → (if b || t then number else old) ≡ number
@@ -19,7 +19,7 @@ if_false true t number old e = refl
 if_false false t number old e = ap (λ k. if k then number else old) e
 
 pub given_more : (part : List ℕ) (i d number : ℕ) (old now : List ℕ) → i < length part → get_or part i d < length old
-    → IsGiven (take i part) number old now → IsGiven (take (i + 1) part) number old (set now (get_or part i d) number)
+    → TakesNumber (take i part) number old now → TakesNumber (take (i + 1) part) number old (set now (get_or part i d) number)
 given_more part i d number old now at low is = record {
   size = length-set now (get_or part i d) number ∙ is.size;
   cells = λ v l.

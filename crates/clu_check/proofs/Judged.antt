@@ -9,7 +9,7 @@ use Rattle.clu_cert.specs.declared.certificate.Certificate.{Certificate}
 use Rattle.clu_cert.specs.Valid.{IsValid, HaveUppers, proved_bound}
 use Rattle.clu_cert.proofs.ValidLaws.{valid_sound}
 use Rattle.clu_check.specs.Rejected.{HaveParts}
-use Rattle.clu_check.specs.Proved.{HasRules}
+use Rattle.clu_check.specs.Proved.{HasClosedRules}
 
 valid_of : (problem : Posed) (start : Closed) (cert : Certificate) → HaveParts problem start cert
     → ((uppers : List ℤ) × HaveUppers problem start cert.root_steps cert.proofs uppers × IsBetterOrEqual problem.objective cert.bound
@@ -28,7 +28,7 @@ valid_of problem start cert p h = record {
   bound = h.2;
 }
 
-pub none_better : (problem : Posed) (start : Closed) (cert : Certificate) (bound : ℤ) → bound ≡ cert.bound → HasRules problem start →
+pub none_better : (problem : Posed) (start : Closed) (cert : Certificate) (bound : ℤ) → bound ≡ cert.bound → HasClosedRules problem start →
     HaveParts problem start cert
     → ((uppers : List ℤ) × HaveUppers problem start cert.root_steps cert.proofs uppers × IsBetterOrEqual problem.objective cert.bound
     (proved_bound problem uppers))

@@ -11,12 +11,12 @@ use Rattle.clu_partition.specs.Pairs.{Pairs}
 use Rattle.clu_objective.specs.Problem.{Posed}
 use Rattle.clu_state.specs.State.{State, AreMembers, undecided}
 use Rattle.clu_state.proofs.Whole.{all_members}
-use Rattle.clu_cert.specs.Valid.{AllParts, IsPart, Lacks, Cover, whole}
+use Rattle.clu_cert.specs.Valid.{AllParts, IsPart, IsOutside, Cover, whole_state}
 use Rattle.clu_cert.specs.declared.certificate.Proof.{Proof}
 use Rattle.clu_check.specs.Parts.{AreOwned}
 use Rattle.clu_check.proofs.Membership.{below_member}
 use Rattle.clu_check.proofs.TakePart.{part_of}
-use Rattle.clu_check.specs.Rejected.{IsFirstBadPart, IsUncovered}
+use Rattle.clu_check.specs.Rejected.{IsFirstBadPart, MissesVertex}
 
 abbrev pub parts : List Proof → List (List ℕ)
 parts proofs = map (λ proof. proof.part) proofs
@@ -103,7 +103,7 @@ pub none_owned : (n : ℕ) → AreOwned [] (replicate n 0)
 none_owned n =
     let size : length {A = ℕ} (replicate n 0) ≡ n = length-replicate n 0 in
     record {
-      without = λ v l e. All-nil (λ part. Lacks part v);
+      without = λ v l e. All-nil (λ part. IsOutside part v);
       given = λ v l d. absurd (d (get_or-replicate {A = ℕ} n v 0 0 (omega (arith, size, l))));
       numbers = λ v l. let e = get_or-replicate {A = ℕ} n v 0 0 (omega (arith, size, l)) in omega (arith, e);
     }
@@ -117,13 +117,13 @@ module _ (s : State) (ps : List (List ℕ)) (owner : List ℕ) (members : s.memb
       subst (λ (v : ℕ). (part : List ℕ) × Contains ps part × Contains part v) (sym (below_at (length owner) i 0 at))
       (part_of ps owner owned i at (λ e. none (i, at, e)))))
 
-  pub uncovered : Contains owner 0 → AllParts s [] ps → IsUncovered s ps (length ps + 1)
+  pub uncovered : Contains owner 0 → AllParts s [] ps → MissesVertex s ps (length ps + 1)
   uncovered c right = record {
     right = right;
     missing = λ cover.
         let h = All-contains (λ v. (part : List ℕ) × Contains ps part × Contains part v) s.members c.0 cover
         (below_member s.members (length owner) c.0 members c.1) in
-        All-contains (λ part. Lacks part c.0) ps h.0 (owned.without c.0 c.1 c.2) h.1 h.2;
+        All-contains (λ part. IsOutside part c.0) ps h.0 (owned.without c.0 c.1 c.2) h.1 h.2;
     counted = refl;
   }
 
@@ -134,7 +134,7 @@ members_all start n slice list closed size is are = subst (AreMembers start) (sy
 
 pub state_is : (problem : Posed) (pairs : Pairs) (start : Closed) (n : ℕ) (slice list : List ℕ) (state : State) → pairs ≡ problem.pairs →
     n ≡ length start.group → length start.group ≡ problem.pairs.n
-    → slice ≡ list → list ≡ below n → state ≡ undecided pairs start slice → state ≡ whole problem start
+    → slice ≡ list → list ≡ below n → state ≡ undecided pairs start slice → state ≡ whole_state problem start
 state_is problem pairs start n slice list state are size sizes is all it =
     it ∙ ap (undecided pairs start) (is ∙ all ∙ ap below (size ∙ sizes)) ∙ ap (λ (t : Pairs). undecided t start (below problem.pairs.n)) are
 
@@ -143,9 +143,9 @@ members_still members old new are size = are ∙ ap below (sym size)
 
 pub one_left : (s : State) (proofs : List Proof) (owner : List ℕ) → s.members ≡ below (length owner) → AllParts s [] (parts proofs) →
     AreOwned (parts proofs) owner → Contains owner 0
-    → IsUncovered s (parts proofs) (length proofs + 1)
+    → MissesVertex s (parts proofs) (length proofs + 1)
 one_left s proofs owner members right owned some =
-    subst (λ (k : ℕ). IsUncovered s (parts proofs) (k + 1)) (length-map proofs (λ (q : Proof). q.part))
+    subst (λ (k : ℕ). MissesVertex s (parts proofs) (k + 1)) (length-map proofs (λ (q : Proof). q.part))
     (uncovered s (parts proofs) owner members owned some right)
 
 pub right_there : (s t : State) (proofs : List Proof) (o : Option ℕ) → s ≡ t → IfNone o (AllParts s [] (parts proofs) × Cover s (parts proofs)) →
@@ -153,7 +153,7 @@ pub right_there : (s t : State) (proofs : List Proof) (o : Option ℕ) → s ≡
 right_there s t proofs o same h = subst (λ (u : State). IfNone o (AllParts u [] (parts proofs) × Cover u (parts proofs))) same h
 
 pub fault_there : (s t : State) (proofs : List Proof) (o : Option ℕ) → s ≡ t →
-    IfSome o (λ number. IsFirstBadPart s (parts proofs) number ⊎ IsUncovered s (parts proofs) number)
-    → IfSome o (λ number. IsFirstBadPart t (parts proofs) number ⊎ IsUncovered t (parts proofs) number)
+    IfSome o (λ number. IsFirstBadPart s (parts proofs) number ⊎ MissesVertex s (parts proofs) number)
+    → IfSome o (λ number. IsFirstBadPart t (parts proofs) number ⊎ MissesVertex t (parts proofs) number)
 fault_there s t proofs o same h = subst (λ (u : State). IfSome o
-    (λ number. IsFirstBadPart u (parts proofs) number ⊎ IsUncovered u (parts proofs) number)) same h
+    (λ number. IsFirstBadPart u (parts proofs) number ⊎ MissesVertex u (parts proofs) number)) same h

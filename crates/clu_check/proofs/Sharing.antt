@@ -10,9 +10,9 @@ use Rattle.clu_state.specs.State.{State, decided}
 use Rattle.clu_reduce.specs.Reduction.{decision_of}
 use Rattle.clu_reduce.specs.declared.step.Step.{Step}
 use Rattle.clu_reduce.proofs.PartOf.{place_of, place_is}
-use Rattle.clu_cert.specs.Valid.{AllParts, AllHold, whole, is_in, decisions_within}
+use Rattle.clu_cert.specs.Valid.{AllParts, StepsHold, whole_state, is_in, decisions_within}
 use Rattle.clu_cert.specs.declared.certificate.Proof.{Proof}
-use Rattle.clu_check.specs.Parts.{AreOwned, AreNumbered, IsShared, steps_within}
+use Rattle.clu_check.specs.Parts.{AreOwned, HavePartNumbers, AddsStep, steps_within}
 use Rattle.clu_check.proofs.Membership.{IsInOrNot, inside, outside, in_or_not, below_from}
 use Rattle.clu_check.proofs.Parting.{parts}
 
@@ -37,7 +37,7 @@ module _ (s : State) (ps : List (List ℕ)) (owner : List ℕ) (right : AllParts
   same v k l m (outside t n) = t ∙ sym (ne_eqb (slice_index owner v) (k + 1) (λ e.
       n (subst (λ (j : ℕ). Contains (get_or ps j []) v) (omega (arith, e)) (owned.given v l (some v l)))))
 
-  pub numbered : AreNumbered ps owner
+  pub numbered : HavePartNumbers ps owner
   numbered = record {
     positive = λ v l. let d = some v l in omega (arith, d);
     within = λ v l. owned.numbers v l;
@@ -68,8 +68,8 @@ one_by p step true e = ap (λ b. cond b (step ∷ []) []) e
 one_by p step false e = ap (λ b. cond b (step ∷ []) []) e
 
 pub shares_more : (ps : List (List ℕ)) (owner : List ℕ) (steps : List Step) (i : ℕ) (step : Step) (old new : List (List Step)) →
-    AreNumbered ps owner → i < length steps → step ≡ get_or steps i step → step.u < length owner → step.v < length owner →
-    AreShares ps (take i steps) old → IsShared owner step old new → AreShares ps (take (i + 1) steps) new
+    HavePartNumbers ps owner → i < length steps → step ≡ get_or steps i step → step.u < length owner → step.v < length owner →
+    AreShares ps (take i steps) old → AddsStep owner step old new → AreShares ps (take (i + 1) steps) new
 shares_more ps owner steps i step old new n l e lu lv was is = record {
   size = is.size ∙ was.size;
   each = λ k m.
@@ -114,8 +114,8 @@ pub shares_all : (proofs : List Proof) (steps : List Step) (i : ℕ) (lists : Li
 shares_all proofs steps i lists end are =
     let all : take i steps ≡ steps = take_all i steps end in
     let size : length (parts proofs) ≡ length proofs = length-map proofs (λ (q : Proof). q.part) in
-    let whole : length {A = List Step} (map (λ p. steps_within p.part steps) proofs) ≡ length proofs = length-map proofs (λ (p : Proof). steps_within p.part steps) in
-    same_lists lists (map (λ p. steps_within p.part steps) proofs) (are.size ∙ size ∙ sym whole) (λ k d l.
+    let whole_state : length {A = List Step} (map (λ p. steps_within p.part steps) proofs) ≡ length proofs = length-map proofs (λ (p : Proof). steps_within p.part steps) in
+    same_lists lists (map (λ p. steps_within p.part steps) proofs) (are.size ∙ size ∙ sym whole_state) (λ k d l.
     let e = are.size in
     let m : k < length proofs = omega (arith, l, e, size) in
     get_or_default lists k d [] l
@@ -128,13 +128,13 @@ shares_all proofs steps i lists end are =
     no_proof = record { part = []; items = [] }
 
 -- ---- steps that hold are on members
-steps_small : (n : ℕ) (steps : List Step) (s : State) → s.members ≡ below n → AllHold s steps → All (λ step. (step.u < n) × (step.v < n)) steps
+steps_small : (n : ℕ) (steps : List Step) (s : State) → s.members ≡ below n → StepsHold s steps → All (λ step. (step.u < n) × (step.v < n)) steps
 steps_small n [] s members h = All-nil (λ step. (step.u < n) × (step.v < n))
 steps_small n (step ∷ steps) s members h = All-cons (λ step. (step.u < n) × (step.v < n)) step steps
     (below_from s.members n step.u members h.0.free.first, below_from s.members n step.v members h.0.free.second)
     (steps_small n steps (decided s (decision_of step)) members h.1)
 
-pub small_steps : (problem : Posed) (start : Closed) (steps given : List Step) (n : ℕ) → given ≡ steps → n ≡ problem.pairs.n → AllHold (whole problem start) steps →
+pub small_steps : (problem : Posed) (start : Closed) (steps given : List Step) (n : ℕ) → given ≡ steps → n ≡ problem.pairs.n → StepsHold (whole_state problem start) steps →
     All (λ step. (step.u < n) × (step.v < n)) given
 small_steps problem start steps given n same size h = subst (λ (ks : List Step). All (λ step. (step.u < n) × (step.v < n)) ks) (sym same)
-    (steps_small n steps (whole problem start) (ap below (sym size)) h)
+    (steps_small n steps (whole_state problem start) (ap below (sym size)) h)

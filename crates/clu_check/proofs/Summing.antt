@@ -20,7 +20,7 @@ use Rattle.clu_cert.proofs.Uppers.{HasRoot, HasProofs}
 use Rattle.clu_cert.proofs.ValidLaws.{cut_size}
 use Rattle.clu_cert.proofs.CutSums.{cut_total, uppers_more, proof_state, proof_least, few_proofs, cut_more, cut_kept, cut_size_next}
 use Rattle.clu_check.specs.Rejected.{HaveParts, ProofFails, ItemFails, TreeFails, IsRejected, as_count}
-use Rattle.clu_check.specs.Proved.{HasRules, IsItemFault}
+use Rattle.clu_check.specs.Proved.{HasClosedRules, IsItemFault}
 use Rattle.clu_check.specs.declared.reject.Reject.{Reject}
 use Rattle.clu_check.specs.declared.reject.Reject.TheVariants.{Shape, Blocks, Rule, Value, Step as StepFault, Parts, Leaf, Unfinished, Bound, Memory}
 use Rattle.clu_check.proofs.Parting.{cut_at}
@@ -52,14 +52,14 @@ summed_none problem start cert earlier is few = record {
   counted = let e = ap items_of (take_none cert.proofs) in omega (arith, e, is, few);
 }
 
-task_of : (problem : Posed) (start : Closed) → HasRules problem start → IsTask problem start
+task_of : (problem : Posed) (start : Closed) → HasClosedRules problem start → IsTask problem start
 task_of problem start r = record { posed = r.posed; closed = r.closed; size = r.one_size; few = r.few }
 
-root_of : (problem : Posed) (start : Closed) (cert : Certificate) → HasRules problem start → HaveParts problem start cert →
+root_of : (problem : Posed) (start : Closed) (cert : Certificate) → HasClosedRules problem start → HaveParts problem start cert →
     HasRoot problem start cert.root_steps
 root_of problem start cert r p = record { task = task_of problem start r; held = p.root.steps }
 
-pub proofs_of : (problem : Posed) (start : Closed) (cert : Certificate) (uppers : List ℤ) → HasRules problem start → HaveParts problem start cert
+pub proofs_of : (problem : Posed) (start : Closed) (cert : Certificate) (uppers : List ℤ) → HasClosedRules problem start → HaveParts problem start cert
     → HaveUppers problem start cert.root_steps cert.proofs uppers → HasProofs problem start cert.root_steps cert.proofs uppers
 proofs_of problem start cert uppers r p h = record { root = root_of problem start cert r p; parts = p.parts; cover = p.cover; proved = h }
 
@@ -68,7 +68,7 @@ pub fits : (sum cut upper : ℤ) (i : ℕ) → cut ≡ upper → unsigned_abs (s
 fits sum cut upper i e s l = omega (arith, ints)
 
 -- ---- the part that is read next
-module _ (problem : Posed) (start : Closed) (cert : Certificate) (rules : HasRules problem start) (parts : HaveParts problem start cert)
+module _ (problem : Posed) (start : Closed) (cert : Certificate) (rules : HasClosedRules problem start) (parts : HaveParts problem start cert)
     (list : List Proof) (are : list ≡ cert.proofs) (i : ℕ) (proof : Proof) (at' : i < length list) (is : proof ≡ get_or list i proof)
     (steps : List Step) (same : decisions_within proof.part steps ≡ decisions_within proof.part cert.root_steps) where
   -- the state of the part with these decisions
@@ -169,7 +169,7 @@ module _ (problem : Posed) (start : Closed) (cert : Certificate) (rules : HasRul
     rejected_of Memory h = tt
 
 -- ---- all proofs
-pub summed_all : (problem : Posed) (start : Closed) (cert : Certificate) (i : ℕ) (sum : ℤ) (earlier : ℕ) → HasRules problem start →
+pub summed_all : (problem : Posed) (start : Closed) (cert : Certificate) (i : ℕ) (sum : ℤ) (earlier : ℕ) → HasClosedRules problem start →
     HaveParts problem start cert → length cert.proofs ≤ i
     → IsSummed problem start cert i sum earlier
     → (uppers : List ℤ) × HaveUppers problem start cert.root_steps cert.proofs uppers ×
@@ -184,7 +184,7 @@ summed_all problem start cert i sum earlier r p end old =
           (omega arith),
     )
 
-pub printable : (problem : Posed) (start : Closed) (cert : Certificate) (sum cut : ℤ) → HasRules problem start → HaveParts problem start cert
+pub printable : (problem : Posed) (start : Closed) (cert : Certificate) (sum cut : ℤ) → HasClosedRules problem start → HaveParts problem start cert
     → ((uppers : List ℤ) × HaveUppers problem start cert.root_steps cert.proofs uppers ×
     (int_min sum (pos (2 ^ 88)) ≡ int_min (total (λ upper. upper) uppers) (pos (2 ^ 88))))
     → cut ≡ int_min sum (pos (2 ^ 88)) → unsigned_abs cut ≤ 2 ^ 88

@@ -6,8 +6,8 @@ use Rattle.std.proofs.lemmas.Bool.{cases_eq}
 use Rattle.std.proofs.lemmas.List.Elements.{All-contains, All-from_get_or, All-get_or, All-push, Contains-get_or}
 use Rattle.clu_partition.specs.Partition.{below}
 use Rattle.clu_state.specs.State.{State}
-use Rattle.clu_cert.specs.Valid.{is_in, IsPart, Lacks}
-use Rattle.clu_check.specs.Parts.{AreOwned, IsGiven, MayBePart, IsSettled, IsSettledWith}
+use Rattle.clu_cert.specs.Valid.{is_in, IsPart, IsOutside}
+use Rattle.clu_check.specs.Parts.{AreOwned, TakesNumber, MayBePart, GainNothing, GainNothingWith}
 use Rattle.clu_check.proofs.Membership.{IsInOrNot, inside, outside, in_or_not, below_from, below_member}
 
 -- a vertex with a number is in a part
@@ -30,7 +30,7 @@ module _ (s : State) (earlier : List (List ℕ)) (part owner : List ℕ) (number
   owner_none : IsPart s earlier part → (v : ℕ) → Contains part v → v < length owner → slice_index owner v ≡ 0
   owner_none is v c l = ⊎_elim (λ e. e) (λ d.
       let p = part_of earlier owner owned v l d in
-      absurd (All-contains (Lacks p.0) part v (All-contains (λ other. All (Lacks other) part) earlier p.0 is.new p.1) c p.2))
+      absurd (All-contains (IsOutside p.0) part v (All-contains (λ other. All (IsOutside other) part) earlier p.0 is.new p.1) c p.2))
       (cases_eq (slice_index owner v) 0)
 
   pub may_of_part : IsPart s earlier part → MayBePart owner part
@@ -44,7 +44,7 @@ module _ (s : State) (earlier : List (List ℕ)) (part owner : List ℕ) (number
         (b, owner_none is (get_or part i 0) c b));
   }
 
-  module _ (new : List ℕ) (may : MayBePart owner part) (given : IsGiven part number owner new) (count : number ≡ length earlier + 1) where
+  module _ (new : List ℕ) (may : MayBePart owner part) (given : TakesNumber part number owner new) (count : number ≡ length earlier + 1) where
     free_at : (v : ℕ) → Contains part v → (v < length owner) × (slice_index owner v ≡ 0)
     free_at v c = All-contains (λ v. (v < length owner) × (slice_index owner v ≡ 0)) part v may.free c
 
@@ -57,43 +57,43 @@ module _ (s : State) (earlier : List (List ℕ)) (part owner : List ℕ) (number
     other_number : (v : ℕ) → v < length owner → is_in part v ≡ false → slice_index new v ≡ number → ⊥
     other_number v l is e = let h = number_out v l is in let k = owned.numbers v l in omega (arith, h, e, k, count)
 
-    settled_or_in : (u v : ℕ) → All (IsSettledWith s new number) part → Contains part u → Contains s.members v → Contains part v ⊎ IsSettled s u v
+    settled_or_in : (u v : ℕ) → All (GainNothingWith s new number) part → Contains part u → Contains s.members v → Contains part v ⊎ GainNothing s u v
     settled_or_in u v all cu cv = by (in_or_not part v)
       where
-        here : (slice_index new v ≡ number) ⊎ IsSettled s u v
-        here = All-contains (λ w. (slice_index new w ≡ number) ⊎ IsSettled s u w) s.members v
-            (All-contains (IsSettledWith s new number) part u all cu) cv
+        here : (slice_index new v ≡ number) ⊎ GainNothing s u v
+        here = All-contains (λ w. (slice_index new w ≡ number) ⊎ GainNothing s u w) s.members v
+            (All-contains (GainNothingWith s new number) part u all cu) cv
 
-        by : IsInOrNot part v → Contains part v ⊎ IsSettled s u v
+        by : IsInOrNot part v → Contains part v ⊎ GainNothing s u v
         by (inside is c) = inl c
         by (outside is n) = ⊎_elim (λ e. absurd (other_number v (below_from s.members (length owner) v members cv) is e)) (λ h. inr h) here
 
-    pub is_part : All (IsSettledWith s new number) part → IsPart s earlier part
+    pub is_part : All (GainNothingWith s new number) part → IsPart s earlier part
     is_part all = record {
       nonempty = may.nonempty;
       rising = may.rising;
       members = members_of s part owner members may;
-      new = All-from_get_or (λ other. All (Lacks other) part) earlier [] (λ i l. All-from_get_or (Lacks (get_or earlier i [])) part 0 (λ j m.
+      new = All-from_get_or (λ other. All (IsOutside other) part) earlier [] (λ i l. All-from_get_or (IsOutside (get_or earlier i [])) part 0 (λ j m.
           let f = free_at (get_or part j 0) (Contains-get_or part j 0 m) in
-          All-get_or (λ other. Lacks other (get_or part j 0)) earlier i [] l (owned.without (get_or part j 0) f.0 f.1)));
+          All-get_or (λ other. IsOutside other (get_or part j 0)) earlier i [] l (owned.without (get_or part j 0) f.0 f.1)));
       undivided = λ u v cu cv e. ⊎_elim (λ c. c) (λ h. absurd (h.differ e)) (settled_or_in u v all cu cv);
       settled = λ u v cu cv lacks. ⊎_elim (λ c. absurd (lacks c)) (λ h. h.idle) (settled_or_in u v all cu cv);
     }
 
-    pub settled_of : IsPart s earlier part → All (IsSettledWith s new number) part
-    settled_of is = All-from_get_or (IsSettledWith s new number) part 0 (λ i l.
-        All-from_get_or (λ w. (slice_index new w ≡ number) ⊎ IsSettled s (get_or part i 0) w) s.members 0 (λ j m.
+    pub settled_of : IsPart s earlier part → All (GainNothingWith s new number) part
+    settled_of is = All-from_get_or (GainNothingWith s new number) part 0 (λ i l.
+        All-from_get_or (λ w. (slice_index new w ≡ number) ⊎ GainNothing s (get_or part i 0) w) s.members 0 (λ j m.
         by (get_or part i 0) (get_or s.members j 0) (Contains-get_or part i 0 l) (Contains-get_or s.members j 0 m)
         (in_or_not part (get_or s.members j 0))))
       where
-        by : (u v : ℕ) → Contains part u → Contains s.members v → IsInOrNot part v → (slice_index new v ≡ number) ⊎ IsSettled s u v
+        by : (u v : ℕ) → Contains part u → Contains s.members v → IsInOrNot part v → (slice_index new v ≡ number) ⊎ GainNothing s u v
         by u v cu cv (inside t c) = inl (number_in v (below_from s.members (length owner) v members cv) t)
         by u v cu cv (outside t n) = inr (record { differ = λ e. n (is.undivided u v cu cv e); idle = is.settled u v cu cv n })
 
     -- ---- whose the vertices are then
-    later_without : (v : ℕ) → v < length owner → slice_index new v ≡ 0 → IsInOrNot part v → All (λ p. Lacks p v) (earlier ++ part ∷ [])
+    later_without : (v : ℕ) → v < length owner → slice_index new v ≡ 0 → IsInOrNot part v → All (λ p. IsOutside p v) (earlier ++ part ∷ [])
     later_without v l z (inside t c) = absurd (let e = number_in v l t in omega (arith, e, z, count))
-    later_without v l z (outside t n) = All-push (λ p. Lacks p v) earlier part (owned.without v l (sym (number_out v l t) ∙ z)) n
+    later_without v l z (outside t n) = All-push (λ p. IsOutside p v) earlier part (owned.without v l (sym (number_out v l t) ∙ z)) n
 
     later_given : (v : ℕ) → v < length owner → slice_index new v ≢ 0 → IsInOrNot part v →
         Contains (get_or (earlier ++ part ∷ []) (slice_index new v - 1) []) v

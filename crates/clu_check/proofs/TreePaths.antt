@@ -5,23 +5,23 @@ use Rattle.clu_state.specs.declared.decision.Decision.{Decision}
 use Rattle.clu_state.specs.declared.decision.Decision.TheVariants.{Together, Apart}
 use Rattle.clu_check.specs.declared.tree.Choice.{Choice}
 use Rattle.clu_check.specs.declared.tree.Choice.TheVariants.{First, Last}
-use Rattle.clu_check.specs.Tree.{decision_of, after, CanGo, waiting}
+use Rattle.clu_check.specs.Tree.{choice_decision, after, CanGo, waiting}
 
-pub after_more : (s : State) (path : List Choice) (c : Choice) → after s (path ++ c ∷ []) ≡ decided (after s path) (decision_of c)
+pub after_more : (s : State) (path : List Choice) (c : Choice) → after s (path ++ c ∷ []) ≡ decided (after s path) (choice_decision c)
 after_more s [] c = refl
-after_more s (d ∷ path) c = after_more (decided s (decision_of d)) path c
+after_more s (d ∷ path) c = after_more (decided s (choice_decision d)) path c
 
 pub after_pairs : (s : State) (path : List Choice) → (after s path).pairs ≡ s.pairs
 after_pairs s [] = refl
-after_pairs s (c ∷ path) = after_pairs (decided s (decision_of c)) path
+after_pairs s (c ∷ path) = after_pairs (decided s (choice_decision c)) path
 
-pub go_more : (s : State) (path : List Choice) (c : Choice) → CanGo s path → CanDecide (after s path) (decision_of c) → CanGo s (path ++ c ∷ [])
+pub go_more : (s : State) (path : List Choice) (c : Choice) → CanGo s path → CanDecide (after s path) (choice_decision c) → CanGo s (path ++ c ∷ [])
 go_more s [] c g can = (can, tt)
-go_more s (d ∷ path) c g can = (g.0, go_more (decided s (decision_of d)) path c g.1 can)
+go_more s (d ∷ path) c g can = (g.0, go_more (decided s (choice_decision d)) path c g.1 can)
 
-pub go_less : (s : State) (path : List Choice) (c : Choice) → CanGo s (path ++ c ∷ []) → CanGo s path × CanDecide (after s path) (decision_of c)
+pub go_less : (s : State) (path : List Choice) (c : Choice) → CanGo s (path ++ c ∷ []) → CanGo s path × CanDecide (after s path) (choice_decision c)
 go_less s [] c g = (tt, g.0)
-go_less s (d ∷ path) c g = let h = go_less (decided s (decision_of d)) path c g.1 in ((g.0, h.0), h.1)
+go_less s (d ∷ path) c g = let h = go_less (decided s (choice_decision d)) path c g.1 in ((g.0, h.0), h.1)
 
 pub waits_first : (s : State) (others : List State) (path : List Choice) (u v : ℕ) →
     waiting s others (path ++ First u v ∷ []) ≡ decided (after s path) (Apart u v) ∷ waiting s others path

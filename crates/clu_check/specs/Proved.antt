@@ -12,7 +12,7 @@ use Rattle.clu_check.specs.declared.reject.Reject.{Reject}
 use Rattle.clu_check.specs.declared.reject.Reject.TheVariants.{Shape, Blocks, Rule, Value, Step as StepFault, Parts, Leaf, Unfinished, Bound, Memory}
 
 -- closed rules for the vertices of a problem, of which there are at most 1,000
-pub record HasRules (problem : Posed) (start : Closed) : Type 0 where
+pub record HasClosedRules (problem : Posed) (start : Closed) : Type 0 where
   pub posed : IsPosed problem
   pub closed : IsClosed start
   pub one_size : length start.group ≡ problem.pairs.n

@@ -4,10 +4,10 @@ use Rattle.clu_partition.specs.Closed.{Closed, Precedes}
 use Rattle.clu_partition.specs.Partition.{IsPartition}
 use Rattle.clu_objective.specs.Problem.{Posed, IsBetterOrEqual}
 use Rattle.clu_state.specs.State.{State}
-use Rattle.clu_reduce.specs.Reduction.{Holds}
+use Rattle.clu_reduce.specs.Reduction.{StepHolds}
 use Rattle.clu_reduce.specs.declared.step.Step.{Step}
 use Rattle.clu_cert.specs.Upper.{IsBadStep, IsBadLeaf, FailsAt, EndsEarly, GoesOn}
-use Rattle.clu_cert.specs.Valid.{HasShape, Obeys, ObeyRules, printed_value, whole, AllHold, stepped, IsPart, AllParts, Cover, parts_of, part_state, HaveUppers, proved_bound}
+use Rattle.clu_cert.specs.Valid.{HasShape, ObeysAt, ObeyRules, printed_value, whole_state, StepsHold, stepped, IsPart, AllParts, Cover, parts_of, part_state, HaveUppers, proved_bound}
 use Rattle.clu_cert.specs.declared.certificate.Certificate.{Certificate}
 use Rattle.clu_cert.specs.declared.certificate.Item.{Item}
 use Rattle.clu_cert.specs.declared.certificate.Proof.{Proof}
@@ -33,21 +33,21 @@ pub record HaveValue (problem : Posed) (start : Closed) (cert : Certificate) : T
 -- and the root steps hold
 pub record HaveRoot (problem : Posed) (start : Closed) (cert : Certificate) : Type 0 where
   pub stated : HaveValue problem start cert
-  pub steps : AllHold (whole problem start) cert.root_steps
+  pub steps : StepsHold (whole_state problem start) cert.root_steps
 
 -- and the parts are as they should be
 pub record HaveParts (problem : Posed) (start : Closed) (cert : Certificate) : Type 0 where
   pub root : HaveRoot problem start cert
-  pub parts : AllParts (stepped (whole problem start) cert.root_steps) [] (parts_of cert)
-  pub cover : Cover (stepped (whole problem start) cert.root_steps) (parts_of cert)
+  pub parts : AllParts (stepped (whole_state problem start) cert.root_steps) [] (parts_of cert)
+  pub cover : Cover (stepped (whole_state problem start) cert.root_steps) (parts_of cert)
 
 -- ---- where one fails
 -- the least pair that doesn't obey the rules
 pub record IsLeastPair (n : ℕ) (start : Closed) (labels : List ℕ) (u v : ℕ) : Type 0 where
   pub ordered : u < v
   pub within : v < n
-  pub broken : Obeys start labels u v → ⊥
-  pub least : (x y : ℕ) → x < y → y < n → Precedes (x, y) (u, v) → Obeys start labels x y
+  pub broken : ObeysAt start labels u v → ⊥
+  pub least : (x y : ℕ) → x < y → y < n → Precedes (x, y) (u, v) → ObeysAt start labels x y
 
 -- the steps before this one, counted from 1, hold, and it doesn't
 pub record IsFirstBadStep (s : State) (steps : List Step) (number : ℕ) : Type 0 where
@@ -56,8 +56,8 @@ pub record IsFirstBadStep (s : State) (steps : List Step) (number : ℕ) : Type 
   pub after : List Step
   pub steps_are : steps ≡ before ++ step ∷ after
   pub counted : number ≡ length before + 1
-  pub held : AllHold s before
-  pub bad : Holds (stepped s before) step → ⊥
+  pub held : StepsHold s before
+  pub bad : StepHolds (stepped s before) step → ⊥
 
 -- the parts before this one, counted from 1, are parts, and it is none
 pub record IsFirstBadPart (s : State) (parts : List (List ℕ)) (number : ℕ) : Type 0 where
@@ -70,7 +70,7 @@ pub record IsFirstBadPart (s : State) (parts : List (List ℕ)) (number : ℕ) :
   pub bad : IsPart s before part → ⊥
 
 -- all are parts, and a vertex is in none
-pub record IsUncovered (s : State) (parts : List (List ℕ)) (number : ℕ) : Type 0 where
+pub record MissesVertex (s : State) (parts : List (List ℕ)) (number : ℕ) : Type 0 where
   pub right : AllParts s [] parts
   pub missing : Cover s parts → ⊥
   pub counted : number ≡ length parts + 1
@@ -105,12 +105,12 @@ IsRejected problem start cert (Value found) =
     AreBlocks problem cert × ObeyRules problem.pairs.n start cert.labels
     × (found ≡ printed_value problem cert.labels) × (found ≢ cert.value)
 IsRejected problem start cert (StepFault item) =
-    (HaveValue problem start cert × IsFirstBadStep (whole problem start) cert.root_steps item)
+    (HaveValue problem start cert × IsFirstBadStep (whole_state problem start) cert.root_steps item)
     ⊎ (HaveParts problem start cert × ProofFails problem start cert (ItemFails IsBadStep item))
 IsRejected problem start cert (Parts part) =
     HaveRoot problem start cert
-    × (IsFirstBadPart (stepped (whole problem start) cert.root_steps) (parts_of cert) part
-    ⊎ IsUncovered (stepped (whole problem start) cert.root_steps) (parts_of cert) part)
+    × (IsFirstBadPart (stepped (whole_state problem start) cert.root_steps) (parts_of cert) part
+    ⊎ MissesVertex (stepped (whole_state problem start) cert.root_steps) (parts_of cert) part)
 IsRejected problem start cert (Leaf item) = HaveParts problem start cert × ProofFails problem start cert (ItemFails IsBadLeaf item)
 IsRejected problem start cert (Unfinished part) = HaveParts problem start cert × ProofFails problem start cert (TreeFails part)
 IsRejected problem start cert (Bound found) =

@@ -8,8 +8,8 @@ ghost use Rattle.clu_objective.specs.Problem.{IsBetterOrEqual};
 ghost use Rattle.clu_cert.specs.Upper.{HasUpper};
 ghost use Rattle.clu_cert.specs.Valid.{HaveUppers, parts_of, part_state, is_in, Rises, decisions_within, proved_bound as proved_bound_of};
 ghost use Rattle.clu_check.specs.Rejected.{HaveParts, IsRejected, as_count};
-ghost use Rattle.clu_check.specs.Parts.{AreNumbered};
-ghost use Rattle.clu_check.specs.Proved.{HasRules, IsItemFault, rejected_by};
+ghost use Rattle.clu_check.specs.Parts.{HavePartNumbers};
+ghost use Rattle.clu_check.specs.Proved.{HasClosedRules, IsItemFault, rejected_by};
 ghost use Rattle.std.specs.Int.{int_min};
 ghost use Rattle.clu_partition.specs.Sums.{total};
 
@@ -32,9 +32,9 @@ pub(crate) fn check_bound(
     c: &Certificate,
     owner: &[usize],
 ) -> Result<(), Reject>
-    requires rules { HasRules problem.now start.now }
+    requires rules { HasClosedRules problem.now start.now }
     requires parts { HaveParts problem.now start.now c.now }
-    requires numbered { AreNumbered (parts_of c.now) owner.now }
+    requires numbered { HavePartNumbers (parts_of c.now) owner.now }
     requires size { length owner.now ≡ problem.now.pairs.n }
     ensures ok { OnOk result ((uppers : List ℤ)
         × HaveUppers problem.now start.now c.now.root_steps c.now.proofs uppers
@@ -56,9 +56,9 @@ fn proved_bound(
     c: &Certificate,
     owner: &[usize],
 ) -> Result<i128, Reject>
-    requires rules { HasRules problem.now start.now }
+    requires rules { HasClosedRules problem.now start.now }
     requires parts { HaveParts problem.now start.now c.now }
-    requires numbered { AreNumbered (parts_of c.now) owner.now }
+    requires numbered { HavePartNumbers (parts_of c.now) owner.now }
     requires size { length owner.now ≡ problem.now.pairs.n }
     ensures ok { IfOk result (λ found. (uppers : List ℤ)
         × HaveUppers problem.now start.now c.now.root_steps c.now.proofs uppers
@@ -78,9 +78,9 @@ fn sum_of_uppers(
     c: &Certificate,
     owner: &[usize],
 ) -> Result<i128, Reject>
-    requires rules { HasRules problem.now start.now }
+    requires rules { HasClosedRules problem.now start.now }
     requires parts { HaveParts problem.now start.now c.now }
-    requires numbered { AreNumbered (parts_of c.now) owner.now }
+    requires numbered { HavePartNumbers (parts_of c.now) owner.now }
     requires size { length owner.now ≡ problem.now.pairs.n }
     ensures ok { IfOk result (λ sum. (uppers : List ℤ)
         × HaveUppers problem.now start.now c.now.root_steps c.now.proofs uppers

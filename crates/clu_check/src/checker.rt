@@ -8,7 +8,7 @@ ghost use Rattle.clu_partition.specs.Pairs.{weight_of};
 ghost use Rattle.clu_partition.specs.Partition.{below};
 ghost use Rattle.clu_partition.specs.Values.{value_on};
 ghost use Rattle.clu_objective.specs.Problem.{printed, IsBetterOrEqual};
-ghost use Rattle.clu_cert.specs.Valid.{IsValid, whole, stepped, AllHold};
+ghost use Rattle.clu_cert.specs.Valid.{IsValid, whole_state, stepped, StepsHold};
 ghost use Rattle.clu_check.specs.Rejected.{HaveValue, HaveRoot, IsFirstBadStep, IsRejected};
 
 use crate::Reject;
@@ -87,7 +87,7 @@ fn all_of<'p>(
     start: &'p Start,
 ) -> Result<Rebuilt<'p>, AllocError>
     requires { length start.now.group ≡ problem.now.pairs.n }
-    ensures { IfOk result (λ state. state ≡ whole problem.now start.now) }
+    ensures { IfOk result (λ state. state ≡ whole_state problem.now start.now) }
 {
     let n = start.n();
     let vertices = all_vertices(alloc, n)?;
@@ -96,7 +96,7 @@ fn all_of<'p>(
 
 /// Makes the steps' decisions, up to the first step that doesn't hold, of which it answers the number.
 fn make_steps<S: Situation>(state: &mut S, steps: &[Step]) -> Result<Option<u64>, AllocError>
-    ensures held { IfOk result (λ bad. IfNone bad (AllHold (S.state state.old) steps.now)) }
+    ensures held { IfOk result (λ bad. IfNone bad (StepsHold (S.state state.old) steps.now)) }
     ensures state { IfOk result (λ bad. IfNone bad (S.state state.new ≡ stepped (S.state state.old) steps.now)) }
     ensures bad { IfOk result (λ bad. IfSome bad (IsFirstBadStep (S.state state.old) steps.now)) }
 {
@@ -119,7 +119,7 @@ fn check_root<'p>(
     requires one_size { length start.now.group ≡ problem.now.pairs.n }
     requires stated { HaveValue problem.now start.now c.now }
     ensures ok { IfOk result (λ _. HaveRoot problem.now start.now c.now) }
-    ensures state { IfOk result (λ state. state ≡ stepped (whole problem.now start.now) c.now.root_steps) }
+    ensures state { IfOk result (λ state. state ≡ stepped (whole_state problem.now start.now) c.now.root_steps) }
     ensures rejected { IfErr result (λ reject. IsRejected problem.now start.now c.now reject) }
 {
     let mut state = all_of(alloc, problem, start)?;

@@ -6,7 +6,7 @@ ghost use Rattle.std.specs.Bool.{OnTrue};
 ghost use Rattle.clu_partition.specs.Closed.{IsClosed};
 ghost use Rattle.clu_partition.specs.Partition.{IsNumberedFrom};
 ghost use Rattle.clu_objective.specs.Problem.{IsPosed};
-ghost use Rattle.clu_cert.specs.Valid.{HasShape, Obeys, ObeyRules, printed_value};
+ghost use Rattle.clu_cert.specs.Valid.{HasShape, ObeysAt, ObeyRules, printed_value};
 ghost use Rattle.clu_check.specs.Rejected.{AreBlocks, HaveValue, IsLeastPair, IsRejected};
 ghost use Rattle.clu_check.specs.Labels.{ObeyWith, IsLeastWith};
 
@@ -124,7 +124,7 @@ fn obeys(start: &Start, labels: &[u32], u: Vertex, v: Vertex) -> bool
     requires one_size { length start.now.group ≡ length labels.now }
     requires first { u < length labels.now }
     requires second { v < length labels.now }
-    ensures { IsTrue result ↔ Obeys start.now labels.now u v }
+    ensures { IsTrue result ↔ ObeysAt start.now labels.now u v }
 {
     if labels[u.0 as usize] == labels[v.0 as usize] {
         !start.apart(u, v)

@@ -4,9 +4,9 @@
 
 ghost use Rattle.std.specs.Prelude.{◌≡◌, ◌≢◌, ◌<◌, ◌≤◌, ◌+◌, ◌⊎◌, ◌↔◌, [], ◌∷◌, ◌++◌, ℕ, List, All, Contains, IsTrue, IfErr, IfNone, IfOk, IfSome, OnOk, length, slice_index, map};
 ghost use Rattle.clu_partition.specs.Partition.{below};
-ghost use Rattle.clu_cert.specs.Valid.{whole, stepped, parts_of, Rises, IsPart, AllParts, Cover};
-ghost use Rattle.clu_check.specs.Rejected.{HaveRoot, HaveParts, IsFirstBadPart, IsUncovered, IsRejected};
-ghost use Rattle.clu_check.specs.Parts.{AreOwned, AreNumbered, IsGiven, MayBePart, IsSettled, IsSettledWith};
+ghost use Rattle.clu_cert.specs.Valid.{whole_state, stepped, parts_of, Rises, IsPart, AllParts, Cover};
+ghost use Rattle.clu_check.specs.Rejected.{HaveRoot, HaveParts, IsFirstBadPart, MissesVertex, IsRejected};
+ghost use Rattle.clu_check.specs.Parts.{AreOwned, HavePartNumbers, TakesNumber, MayBePart, GainNothing, GainNothingWith};
 
 use crate::Reject;
 use clu_cert::{Certificate, Proof};
@@ -26,9 +26,9 @@ pub(crate) fn check_parts(
 ) -> Result<Vec<usize>, Reject>
     requires one_size { length start.now.group ≡ problem.now.pairs.n }
     requires root { HaveRoot problem.now start.now c.now }
-    requires state { state.now ≡ stepped (whole problem.now start.now) c.now.root_steps }
+    requires state { state.now ≡ stepped (whole_state problem.now start.now) c.now.root_steps }
     ensures ok { IfOk result (λ _. HaveParts problem.now start.now c.now) }
-    ensures numbered { IfOk result (λ owner. AreNumbered (parts_of c.now) owner.items) }
+    ensures numbered { IfOk result (λ owner. HavePartNumbers (parts_of c.now) owner.items) }
     ensures size { IfOk result (λ owner. length owner.items ≡ problem.now.pairs.n) }
     ensures rejected { IfErr result (λ reject. IsRejected problem.now start.now c.now reject) }
 {
@@ -46,11 +46,11 @@ fn first_fault(state: &Rebuilt, owner: &mut [usize], proofs: &[Proof]) -> Option
     ensures right { IfNone result
         (AllParts state.now [] (map (λ proof. proof.part) proofs.now)
         × Cover state.now (map (λ proof. proof.part) proofs.now)) }
-    ensures numbered { IfNone result (AreNumbered (map (λ proof. proof.part) proofs.now) owner.new) }
+    ensures numbered { IfNone result (HavePartNumbers (map (λ proof. proof.part) proofs.now) owner.new) }
     ensures size { length owner.new ≡ length owner.old }
     ensures fault { IfSome result (λ number.
         IsFirstBadPart state.now (map (λ proof. proof.part) proofs.now) number
-        ⊎ IsUncovered state.now (map (λ proof. proof.part) proofs.now) number) }
+        ⊎ MissesVertex state.now (map (λ proof. proof.part) proofs.now) number) }
 {
     if let Some(part) = first_bad_part(state, owner, proofs) {
         return Some(part);
@@ -148,7 +148,7 @@ fn is_new(owner: &[usize], v: Vertex) -> bool
 #[tactic(auto, using(crate::proofs::Giving::given_none, crate::proofs::Giving::given_more))]
 fn give(owner: &mut [usize], part: &[Vertex], number: usize)
     requires { All (λ v. v < length owner.old) part.now }
-    ensures { IsGiven part.now number owner.old owner.new }
+    ensures { TakesNumber part.now number owner.old owner.new }
 {
     for v in part {
         owner[v.0 as usize] = number;
@@ -159,7 +159,7 @@ fn give(owner: &mut [usize], part: &[Vertex], number: usize)
 fn is_settled_part(state: &Rebuilt, owner: &[usize], number: usize, part: &[Vertex]) -> bool
     requires members { state.now.members ≡ below (length owner.now) }
     requires within { All (Contains state.now.members) part.now }
-    ensures { IsTrue result ↔ All (IsSettledWith state.now owner.now number) part.now }
+    ensures { IsTrue result ↔ All (GainNothingWith state.now owner.now number) part.now }
 {
     for u in part {
         if !is_settled_with(state, owner, number, *u) {
@@ -172,7 +172,7 @@ fn is_settled_part(state: &Rebuilt, owner: &[usize], number: usize, part: &[Vert
 fn is_settled_with(state: &Rebuilt, owner: &[usize], number: usize, u: Vertex) -> bool
     requires members { state.now.members ≡ below (length owner.now) }
     requires within { Contains state.now.members u }
-    ensures { IsTrue result ↔ IsSettledWith state.now owner.now number u }
+    ensures { IsTrue result ↔ GainNothingWith state.now owner.now number u }
 {
     for v in state.members() {
         if !is_inside_or_settled(state, owner, number, u, *v) {
@@ -192,7 +192,7 @@ fn is_inside_or_settled(
     requires first { Contains state.now.members u }
     requires second { Contains state.now.members v }
     requires within { v < length owner.now }
-    ensures { IsTrue result ↔ ((slice_index owner.now v ≡ number) ⊎ IsSettled state.now u v) }
+    ensures { IsTrue result ↔ ((slice_index owner.now v ≡ number) ⊎ GainNothing state.now u v) }
 {
     owner[v.0 as usize] == number || is_settled(state, u, v)
 }
@@ -201,7 +201,7 @@ fn is_inside_or_settled(
 fn is_settled(state: &Rebuilt, u: Vertex, v: Vertex) -> bool
     requires first { Contains state.now.members u }
     requires second { Contains state.now.members v }
-    ensures { IsTrue result ↔ IsSettled state.now u v }
+    ensures { IsTrue result ↔ GainNothing state.now u v }
 {
     state.group_of(u) != state.group_of(v) && (state.is_apart(u, v) || state.weight(u, v) <= 0)
 }

@@ -2,7 +2,7 @@
 //! vertices, and a step on vertices of two parts to none.
 
 ghost use Rattle.std.specs.Prelude.{◌≡◌, ◌<◌, ◌≤◌, [], All, IfOk, OnOk, length, slice_index, map, replicate};
-ghost use Rattle.clu_check.specs.Parts.{AreNumbered, IsShared, steps_within};
+ghost use Rattle.clu_check.specs.Parts.{HavePartNumbers, AddsStep, steps_within};
 
 use clu_cert::Proof;
 use clu_partition::Seq;
@@ -17,7 +17,7 @@ pub(crate) fn steps_by_part(
     proofs: &[Proof],
     steps: &[Step],
 ) -> Result<Vec<Seq<Step>>, AllocError>
-    requires numbered { AreNumbered (map (λ proof. proof.part) proofs.now) owner.now }
+    requires numbered { HavePartNumbers (map (λ proof. proof.part) proofs.now) owner.now }
     requires small { All (λ step. (step.u < length owner.now) × (step.v < length owner.now)) steps.now }
     ensures { IfOk result (λ shares. shares.items
         ≡ map (λ proof. steps_within proof.part steps.now) proofs.now) }
@@ -46,7 +46,7 @@ fn share(shares: &mut Vec<Seq<Step>>, owner: &[usize], step: &Step) -> Result<()
     requires second { step.now.v < length owner.now }
     requires positive { 0 < slice_index owner.now step.now.u }
     requires within { slice_index owner.now step.now.u ≤ length shares.old.items }
-    ensures { OnOk result (IsShared owner.now step.now shares.old.items shares.new.items) }
+    ensures { OnOk result (AddsStep owner.now step.now shares.old.items shares.new.items) }
 {
     let number = owner[step.u.0 as usize];
     if number == owner[step.v.0 as usize] {

@@ -6,7 +6,7 @@ ghost use Rattle.std.specs.Prelude.{◌≡◌, ◌≤◌, ◌<◌, ◌↔◌, �
 ghost use Rattle.clu_state.specs.State.{State, IsState, IsFree, CanDecide, CanDecideAll, decided, undecided};
 ghost use Rattle.clu_reduce.specs.Reduction.{decision_of as decision_of_step};
 ghost use Rattle.clu_cert.specs.Upper.{HasUpper, FailsAt, IsBadStep, IsBadLeaf, EndsEarly, GoesOn};
-ghost use Rattle.clu_check.specs.Tree.{decision_of, after, CanGo, waiting, base_of, opened, IsReading, Takes, IsRefused, with_decisions};
+ghost use Rattle.clu_check.specs.Tree.{choice_decision, after, CanGo, waiting, base_of, opened, IsReading, Takes, IsBadNext, with_decisions};
 
 use clu_cert::Item;
 use clu_partition::{PairTable, Start, Vertex};
@@ -147,7 +147,7 @@ enum Choice {
 
 impl Choice {
     fn decision(&self) -> Decision
-        ensures { result ≡ decision_of self.now }
+        ensures { result ≡ choice_decision self.now }
     {
         match self {
             Choice::First(u, v) => Decision::Together(*u, *v),
@@ -269,8 +269,8 @@ impl<'p> Reading<'p> {
         ensures part { OnOk result (base_of self.new ≡ base_of self.old) }
         ensures reading { OnOk result (IsReading self.new) }
         ensures read { OnOk result (Takes self.old (Item.Branch u v) self.new) }
-        ensures step { IsErrOf result ItemFault.Step → IsRefused IsBadStep self.old (Item.Branch u v) }
-        ensures leaf { IsErrOf result ItemFault.Leaf → IsRefused IsBadLeaf self.old (Item.Branch u v) }
+        ensures step { IsErrOf result ItemFault.Step → IsBadNext IsBadStep self.old (Item.Branch u v) }
+        ensures leaf { IsErrOf result ItemFault.Leaf → IsBadNext IsBadLeaf self.old (Item.Branch u v) }
         ensures whole { IsErrOf result ItemFault.Whole → opened self.old ≡ [] }
     {
         if !self.state.is_free(u, v) {
@@ -324,8 +324,8 @@ impl<'p> Reading<'p> {
         ensures part { OnOk result (base_of self.new ≡ base_of self.old) }
         ensures reading { OnOk result (IsReading self.new) }
         ensures read { OnOk result (Takes self.old (Item.Reduce step.now) self.new) }
-        ensures step { IsErrOf result ItemFault.Step → IsRefused IsBadStep self.old (Item.Reduce step.now) }
-        ensures leaf { IsErrOf result ItemFault.Leaf → IsRefused IsBadLeaf self.old (Item.Reduce step.now) }
+        ensures step { IsErrOf result ItemFault.Step → IsBadNext IsBadStep self.old (Item.Reduce step.now) }
+        ensures leaf { IsErrOf result ItemFault.Leaf → IsBadNext IsBadLeaf self.old (Item.Reduce step.now) }
         ensures whole { IsErrOf result ItemFault.Whole → opened self.old ≡ [] }
     {
         if !holds(&self.state, step) {
@@ -360,8 +360,8 @@ impl<'p> Reading<'p> {
         ensures part { OnOk result (base_of self.new ≡ base_of self.old) }
         ensures reading { OnOk result (IsReading self.new) }
         ensures read { OnOk result (Takes self.old (Item.Leaf leaf.now) self.new) }
-        ensures step { IsErrOf result ItemFault.Step → IsRefused IsBadStep self.old (Item.Leaf leaf.now) }
-        ensures leaf { IsErrOf result ItemFault.Leaf → IsRefused IsBadLeaf self.old (Item.Leaf leaf.now) }
+        ensures step { IsErrOf result ItemFault.Step → IsBadNext IsBadStep self.old (Item.Leaf leaf.now) }
+        ensures leaf { IsErrOf result ItemFault.Leaf → IsBadNext IsBadLeaf self.old (Item.Leaf leaf.now) }
         ensures whole { IsErrOf result ItemFault.Whole → opened self.old ≡ [] }
         ensures room { scratch.new.n ≡ scratch.old.n }
     {
@@ -380,8 +380,8 @@ impl<'p> Reading<'p> {
         ensures part { OnOk result (base_of self.new ≡ base_of self.old) }
         ensures reading { OnOk result (IsReading self.new) }
         ensures read { OnOk result (Takes self.old item.now self.new) }
-        ensures step { IsErrOf result ItemFault.Step → IsRefused IsBadStep self.old item.now }
-        ensures leaf { IsErrOf result ItemFault.Leaf → IsRefused IsBadLeaf self.old item.now }
+        ensures step { IsErrOf result ItemFault.Step → IsBadNext IsBadStep self.old item.now }
+        ensures leaf { IsErrOf result ItemFault.Leaf → IsBadNext IsBadLeaf self.old item.now }
         ensures whole { IsErrOf result ItemFault.Whole → opened self.old ≡ [] }
         ensures room { scratch.new.n ≡ scratch.old.n }
     {

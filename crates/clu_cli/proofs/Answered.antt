@@ -1,19 +1,19 @@
 -- What a partition is worth is its printed number, and so the printed bound is one of what partitions are worth.
 use Rattle.std.proofs.Common.{◌≡◌, ◌↔◌, ℕ, ℤ, ◌≤◌, List, Bool, true, false, IsTrue, All, slice_index, refl, sym, ap, subst, arith, if◌then◌else◌}
 use Rattle.std.proofs.lemmas.List.Elements.{All-nil}
-use Rattle.clu_partition.specs.Closed.{Closed, IsOpen, IsPermitted}
+use Rattle.clu_partition.specs.Closed.{Closed, BindsNothing, IsPermitted}
 use Rattle.clu_partition.specs.Pairs.{weight_of}
 use Rattle.clu_partition.specs.Partition.{below, IsPartition}
 use Rattle.clu_partition.specs.Values.{value_on}
 use Rattle.clu_objective.specs.Problem.{Posed, printed, IsBetterOrEqual}
 use Rattle.clu_objective.specs.declared.objective.Objective.{Objective}
 use Rattle.clu_search.specs.declared.outcome.End.{End}
-use Rattle.clu_cli.specs.Instances.{IsReached, Poses, Prints, objective_of, vertices_of, worth}
+use Rattle.clu_cli.specs.Instances.{IsReached, Poses, PrintsWorth, objective_of, vertices_of, worth}
 use Rattle.clu_cli.specs.declared.instance.Instance.{Instance}
 use Rattle.clu_cli.proofs.InstanceLaws.{objective_posed, worth_printed}
 use Rattle.clu_search.specs.declared.outcome.End.TheVariants.{Optimal, Branchings}
 
-module _ (instance : Instance) (problem : Posed) (poses : Poses instance problem) (prints : Prints instance problem) where
+module _ (instance : Instance) (problem : Posed) (poses : Poses instance problem) (prints : PrintsWorth instance problem) where
   pub value_worth : (labels : List ℕ) → IsPartition (vertices_of instance) labels
       → printed problem (value_on (weight_of problem.pairs) (slice_index labels) (below problem.pairs.n)) ≡ worth instance labels
   value_worth labels partition = worth_printed instance problem poses prints labels partition.one_each
@@ -47,7 +47,7 @@ all_made Optimal P made limit o b gap = absurd (gap (o.0 refl))
 all_made Branchings P made limit o b gap = (b.0 refl).1
 
 -- rules that bind nothing permit each partition
-pub all_permitted : (n : ℕ) (start : Closed) → IsOpen n start → (label : ℕ → ℕ) → IsPermitted start label
+pub all_permitted : (n : ℕ) (start : Closed) → BindsNothing n start → (label : ℕ → ℕ) → IsPermitted start label
 all_permitted n start free label = record {
   required = λ v at. let size = free.size in ap label (free.alone v (omega (arith, at, size)));
   forbidden = subst (All (λ p. label p.0 ≡ label p.1 → ⊥)) (sym free.none_forbidden) (All-nil (λ p. label p.0 ≡ label p.1 → ⊥));

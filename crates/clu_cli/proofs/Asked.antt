@@ -6,15 +6,15 @@ use Rattle.clu_text.specs.Numbers.{IsU64}
 use Rattle.clu_objective.specs.declared.objective.Objective.TheVariants as objective
 use Rattle.clu_cli.specs.declared.form.Form.{Form}
 use Rattle.clu_cli.specs.declared.form.Form.TheVariants.{Edits, Agreement, Modularity}
-use Rattle.clu_cli.specs.Forms.{IsForm, IsPlaces}
+use Rattle.clu_cli.specs.Forms.{IsForm, GivesDecimals}
 use Rattle.clu_cli.specs.Options.{Given, given_of, nothing}
-use Rattle.clu_cli.specs.Words.{AllowsBranchings, AreWords, Asked, Command, IsCheck, IsCommand, IsNamed, IsSolve, solve, check}
+use Rattle.clu_cli.specs.Words.{AllowsBranchings, AreWords, Asked, Command, IsCheck, IsCommand, GivesName, IsSolve, solve, check}
 
 -- ---- what options give
 one_number : (word : List ℕ) (a b : ℕ) → IsU64 word a → IsU64 word b → a ≡ b
 one_number word a b this that = sym this.number.value_is ∙ that.number.value_is
 
-one_places : (word : Option (List ℕ)) (a b : Option ℕ) → IsPlaces word a → IsPlaces word b → a ≡ b
+one_places : (word : Option (List ℕ)) (a b : Option ℕ) → GivesDecimals word a → GivesDecimals word b → a ≡ b
 one_places None None None this that = λ i. None
 one_places None None (Some b) this that = absurd that
 one_places None (Some a) b this that = absurd this
@@ -33,7 +33,7 @@ one_form given (Modularity p) Edits this that = absurd (let e : Some objective.M
 one_form given (Modularity p) (Agreement q) this that = absurd (let e : Some objective.Modularity ≡ Some objective.Agreement = sym this.0 ∙ that.0 in cc)
 one_form given (Modularity p) (Modularity q) this that = ap Modularity (one_places given.places p q this.1 that.1)
 
-one_name : (word a b : Option (List ℕ)) → IsNamed word a → IsNamed word b → a ≡ b
+one_name : (word a b : Option (List ℕ)) → GivesName word a → GivesName word b → a ≡ b
 one_name None None None this that = λ i. None
 one_name None None (Some b) this that = absurd that
 one_name None (Some a) b this that = absurd this
@@ -65,7 +65,7 @@ solve_once words file other form asked certificate name limit most this that =
     let gives : Some this.given ≡ Some that.given = sym this.gives ∙ ap (λ (ws : List (List ℕ)). given_of ws nothing) options ∙ that.gives in
     let same : that.given ≡ this.given = cc in
     let forms = one_form this.given form asked this.asks (subst (λ (g : Given). IsForm g asked) same that.asks) in
-    let names = one_name this.given.certificate certificate name this.names (subst (λ (g : Given). IsNamed g.certificate name) same that.names) in
+    let names = one_name this.given.certificate certificate name this.names (subst (λ (g : Given). GivesName g.certificate name) same that.names) in
     let limits = one_limit this.given.branchings limit most this.allows (subst (λ (g : Given). AllowsBranchings g.branchings most) same that.allows) in
     λ i. solve (files i) (forms i) (names i) (limits i)
 
@@ -109,9 +109,9 @@ module _ (file : List ℕ) (options : List (List ℕ)) where
         → IsSolve (codes "solve" ∷ file ∷ options) file form name limit → ⊥
     no_form none form name limit s = none form (subst (λ (g : Given). IsForm g form) (solve_given form name limit s) s.asks)
 
-    pub no_name : ((name : Option (List ℕ)) → IsNamed given.certificate name → ⊥) → (form : Form) (name : Option (List ℕ)) (limit : ℕ)
+    pub no_name : ((name : Option (List ℕ)) → GivesName given.certificate name → ⊥) → (form : Form) (name : Option (List ℕ)) (limit : ℕ)
         → IsSolve (codes "solve" ∷ file ∷ options) file form name limit → ⊥
-    no_name none form name limit s = none name (subst (λ (g : Given). IsNamed g.certificate name) (solve_given form name limit s) s.names)
+    no_name none form name limit s = none name (subst (λ (g : Given). GivesName g.certificate name) (solve_given form name limit s) s.names)
 
     pub no_limit : ((limit : ℕ) → AllowsBranchings given.branchings limit → ⊥) → (form : Form) (name : Option (List ℕ)) (limit : ℕ)
         → IsSolve (codes "solve" ∷ file ∷ options) file form name limit → ⊥

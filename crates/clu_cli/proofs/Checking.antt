@@ -1,7 +1,7 @@
 -- A certificate that the checker accepts is a proof, and one that it rejects certifies nothing.
 use Rattle.std.proofs.Common.{◌≡◌, ℕ, ℤ, List, slice_index, sym, ◌∙◌, ap, subst, Bool, true, false}
 use Rattle.std.proofs.lemmas.Bool.{false≢true}
-use Rattle.clu_partition.specs.Closed.{Closed, IsOpen, IsPermitted}
+use Rattle.clu_partition.specs.Closed.{Closed, BindsNothing, IsPermitted}
 use Rattle.clu_partition.specs.Pairs.{weight_of}
 use Rattle.clu_partition.specs.Partition.{below, IsPartition}
 use Rattle.clu_partition.specs.Values.{value_on}
@@ -9,11 +9,11 @@ use Rattle.clu_partition.proofs.ClosedLaws.{one_open}
 use Rattle.clu_objective.specs.Problem.{Posed, printed, IsBetterOrEqual}
 use Rattle.clu_objective.specs.declared.objective.Objective.{Objective}
 use Rattle.clu_cert.specs.Fits.{Fits}
-use Rattle.clu_cert.specs.Text.{text}
+use Rattle.clu_cert.specs.Text.{cert_text}
 use Rattle.clu_cert.specs.Valid.{IsValid}
 use Rattle.clu_cert.specs.declared.certificate.Certificate.{Certificate}
 use Rattle.clu_cli.specs.Headline.{IsProofOf, NoneCertifies}
-use Rattle.clu_cli.specs.Instances.{Poses, Prints, objective_of, vertices_of}
+use Rattle.clu_cli.specs.Instances.{Poses, PrintsWorth, objective_of, vertices_of}
 use Rattle.clu_cli.specs.Report.{check_report}
 use Rattle.clu_cli.specs.declared.instance.Instance.{Instance}
 use Rattle.clu_cli.proofs.Answered.{all_permitted, none_better as none_better_than, value_worth}
@@ -23,8 +23,8 @@ use Rattle.clu_cli.proofs.InstanceLaws.{one_problem, scale_posed, vertices_posed
 pub not_equal : {X : Type 0} (eq : X → X → Bool) (x y : X) (answer : Bool) → answer ≡ eq x y → answer ≡ false → eq y y ≡ true → x ≡ y → ⊥
 not_equal eq x y answer is denied same e = false≢true (sym denied ∙ is ∙ ap (λ z. eq z y) e ∙ same)
 
-module _ (instance : Instance) (problem : Posed) (poses : Poses instance problem) (start : Closed) (unbound : IsOpen (vertices_of instance) start)
-    (bytes : List ℕ) (cert : Certificate) (only : (other : Certificate) → Fits other → bytes ≡ text other → other ≡ cert) where
+module _ (instance : Instance) (problem : Posed) (poses : Poses instance problem) (start : Closed) (unbound : BindsNothing (vertices_of instance) start)
+    (bytes : List ℕ) (cert : Certificate) (only : (other : Certificate) → Fits other → bytes ≡ cert_text other → other ≡ cert) where
   pub none_certifies : (IsValid problem start cert → ⊥) → NoneCertifies instance bytes
   none_certifies invalid other fits is c =
       invalid (subst (λ (one : Certificate). IsValid problem start one) (only other fits is)
@@ -32,7 +32,7 @@ module _ (instance : Instance) (problem : Posed) (poses : Poses instance problem
       (subst (λ (one : Posed). IsValid one c.start other) (one_problem instance c.problem problem c.poses poses) c.valid)))
 
   -- what is printed of one that is accepted
-  pub proves : Prints instance problem → Fits cert → bytes ≡ text cert → IsValid problem start cert → (value bound : ℤ) → value ≡ cert.value → bound ≡ cert.bound
+  pub proves : PrintsWorth instance problem → Fits cert → bytes ≡ cert_text cert → IsValid problem start cert → (value bound : ℤ) → value ≡ cert.value → bound ≡ cert.bound
       → ((label : ℕ → ℕ) → IsPermitted start label
       → IsBetterOrEqual problem.objective bound (printed problem (value_on (weight_of problem.pairs) label (below problem.pairs.n))))
       → (objective : Objective) → objective ≡ objective_of instance → (vertices : ℕ) → vertices ≡ vertices_of instance → (scale : ℕ) → scale ≡ problem.scale

@@ -3,14 +3,14 @@ use Rattle.std.proofs.Common.{◌≡◌, ℕ, ◌≤◌, ◌<◌, List, length, 
 use Rattle.std.specs.Prelude.{Result, IfErr, IfSome, IsSomeAnd, String, if◌then◌else◌}
 use Rattle.std.specs.Global.{Global}
 use Rattle.clu_outside.specs.Folder.{Told, Holds, HoldsMore, Lacks}
-use Rattle.clu_partition.specs.Closed.{Closed, IsOpen}
+use Rattle.clu_partition.specs.Closed.{Closed, BindsNothing}
 use Rattle.clu_partition.proofs.ClosedLaws.{one_open}
 use Rattle.clu_cert.specs.Fits.{Fits}
-use Rattle.clu_cert.specs.Text.{text}
+use Rattle.clu_cert.specs.Text.{cert_text}
 use Rattle.clu_cert.specs.declared.certificate.Certificate.{Certificate}
 use Rattle.clu_search.specs.Count.{count}
 use Rattle.clu_search.specs.Outcome.{branchings_of}
-use Rattle.clu_cli.specs.Headline.{Certifies, Ends, IsAbsent, IsAnswer, IsCompletable, IsCutShort, IsDecided, IsBarred, Gives, GivesOnly, IsLoaded, IsProven, IsRefused, IsSolvable, IsTooLong, IsTurnedDown, IsTurnedDownBy, Prints, Reports, StopsAbsent, StopsRefused, StopsTurnedDown, TellsFault, TellsRefusal, max_bytes}
+use Rattle.clu_cli.specs.Headline.{Certifies, Ends, IsAbsent, IsAnswer, IsCompletable, IsTruncated, DecidesStatus, IsBarred, Gives, GivesOnly, HoldsInput, IsProven, IsRefused, IsSolvable, IsTooLong, IsTurnedDown, IsTurnedDownBy, PrintsReport, Reports, StopsAbsent, StopsRefused, StopsTurnedDown, TellsFault, TellsRefusal, max_bytes}
 use Rattle.clu_outside.specs.Sink.{TakesSome}
 use Rattle.clu_cli.specs.Status.{end_status, stop_line}
 use Rattle.clu_cli.specs.Instances.{IsInstance, vertices_of}
@@ -73,7 +73,7 @@ module _ (t : Told) where
   given_or_lacks : (file : List ℕ) (form : Form) (instance : Instance) → Gives file form (Some t) instance → Lacks (Some t) file → ⊥
   given_or_lacks file form instance g lacks = held_or_lacks (t.held file) g.bytes g.loaded.held lacks
 
-  loaded_or_longer : (file bytes : List ℕ) → IsLoaded file (Some t) bytes → HoldsMore (Some t) file max_bytes → ⊥
+  loaded_or_longer : (file bytes : List ℕ) → HoldsInput file (Some t) bytes → HoldsMore (Some t) file max_bytes → ⊥
   loaded_or_longer file bytes l longer = not_longer (t.held file) bytes l.held l.small longer
 
   given_or_refused : (command : Command) (instance : Instance) → Gives (graph_file command) (form_of command) (Some t) instance → IsRefused command (Some t) → ⊥
@@ -127,7 +127,7 @@ module _ (t : Told) where
 
   proven_ready : (command : Command) → IsProven command (Some t) → IsReady t command
   proven_ready (solve file form certificate limit) h = absurd h
-  proven_ready (check file name form) h = (h.0, h.1, text h.2, h.4)
+  proven_ready (check file name form) h = (h.0, h.1, cert_text h.2, h.4)
 
   solvable_ready : (command : Command) → IsSolvable command (Some t) → IsReady t command
   solvable_ready (solve file form certificate limit) h = h
@@ -139,7 +139,7 @@ module _ (t : Told) where
   reports_ready (check file name form) after printed status h =
       (h.instance, given_of file form h.instance h.given, h.certificate, h.held)
 
-  cut_short_ready : (command : Command) (after : Option Told) (old new : Option (List ℕ)) → IsCutShort command (Some t) after old new → IsReady t command
+  cut_short_ready : (command : Command) (after : Option Told) (old new : Option (List ℕ)) → IsTruncated command (Some t) after old new → IsReady t command
   cut_short_ready (solve file form certificate limit) after old new (inl h) =
       let same = same_file file h.file form h.form certificate (Some h.name) limit h.limit h.command_is in (
         h.instance,
@@ -158,9 +158,9 @@ module _ (t : Told) where
 
   -- ---- valid or not
   certified_or_not : (file name : List ℕ) (form : Form) (instance : Instance) (cert : Certificate) → Gives file form (Some t) instance → Fits cert
-      → Holds (Some t) name (text cert) → Certifies instance cert → IsTurnedDown (check file name form) (Some t) → ⊥
+      → Holds (Some t) name (cert_text cert) → Certifies instance cert → IsTurnedDown (check file name form) (Some t) → ⊥
   certified_or_not file name form instance cert g fits held valid h =
-      h.4 cert fits (same_bytes (t.held name) (text cert) h.2 held h.3)
+      h.4 cert fits (same_bytes (t.held name) (cert_text cert) h.2 held h.3)
       (subst (λ (one : Instance). Certifies one cert) (same_instance file form h.0 instance h.1 g) valid)
 
   proven_or_turned_down : (command : Command) → IsProven command (Some t) → IsTurnedDown command (Some t) → ⊥
@@ -174,7 +174,7 @@ module _ (t : Told) where
       certified_or_not file name form r.instance r.proof.cert (given_of file form r.instance r.given) r.proof.fits
       (subst (λ (bs : List ℕ). t.held name ≡ Some bs) r.proof.read r.held) r.proof.certifies h
 
-  cut_short_or_turned_down : (command : Command) (after : Option Told) (old new : Option (List ℕ)) → IsCutShort command (Some t) after old new
+  cut_short_or_turned_down : (command : Command) (after : Option Told) (old new : Option (List ℕ)) → IsTruncated command (Some t) after old new
       → IsTurnedDown command (Some t) → ⊥
   cut_short_or_turned_down (solve file form certificate limit) after old new r h = absurd h
   cut_short_or_turned_down (check file name form) after old new (inl r) h = absurd (no_check file name r.file r.name form r.form r.limit r.command_is)
@@ -188,7 +188,7 @@ module _ (t : Told) where
   -- ---- optimal or not
   -- a search that made all allowed branchings made fewer than there are partitions
   spent : (instance : Instance) (printed : List ℕ) (cert : Certificate) (limit : ℕ) (answer : IsAnswer instance printed cert limit 1) (start : Closed)
-      → IsOpen (vertices_of instance) start → count start ≤ limit → ⊥
+      → BindsNothing (vertices_of instance) start → count start ≤ limit → ⊥
   spent instance printed cert limit answer start unbound room =
       let less = subst (λ (c : Closed). branchings_of cert < count c) (one_open (vertices_of instance) answer.searched.start start answer.searched.unbound unbound) answer.searched.counted in
       let made = answer.gap refl in
@@ -199,7 +199,7 @@ module _ (t : Told) where
       → IsCompletable command (Some t) → ⊥
   gap_or_completed (solve file form certificate limit) after printed r h =
       spent r.instance printed r.cert limit r.answer h.2
-      (subst (λ (one : Instance). IsOpen (vertices_of one) h.2) (same_instance file form r.instance h.0 (given_of file form r.instance r.given) h.1) h.3) h.4
+      (subst (λ (one : Instance). BindsNothing (vertices_of one) h.2) (same_instance file form r.instance h.0 (given_of file form r.instance r.given) h.1) h.3) h.4
   gap_or_completed (check file name form) after printed r h = absurd h
 
   completed_of : (command : Command) (after : Option Told) (printed : List ℕ) (optimal : Bool)
@@ -210,8 +210,8 @@ module _ (t : Told) where
 
   -- ---- the status
   module _ (command : Command) (after : Option Told) (old new : Option (List ℕ)) where
-    printed_decided : (optimal : Bool) → (if optimal then 0 else 1) ≤ 1 → Prints command (Some t) after old new (if optimal then 0 else 1)
-        → IsDecided command (Some t) (if optimal then 0 else 1)
+    printed_decided : (optimal : Bool) → (if optimal then 0 else 1) ≤ 1 → PrintsReport command (Some t) after old new (if optimal then 0 else 1)
+        → DecidesStatus command (Some t) (if optimal then 0 else 1)
     printed_decided optimal low h = let status = if optimal then 0 else 1 in let ready = reports_ready command after h.printed status h.reports in record {
       absent = λ a. absurd (ready_or_absent command ready a);
       too_long = λ a. absurd (ready_or_longer command ready a);
@@ -222,7 +222,7 @@ module _ (t : Told) where
       completed = λ g. inl (completed_of command after h.printed optimal h.reports g);
     }
 
-    turned_down_decided : IsTurnedDown command (Some t) → IsDecided command (Some t) 3
+    turned_down_decided : IsTurnedDown command (Some t) → DecidesStatus command (Some t) 3
     turned_down_decided h = let ready = turned_down_ready command h in record {
       absent = λ a. absurd (ready_or_absent command ready a);
       too_long = λ a. absurd (ready_or_longer command ready a);
@@ -233,7 +233,7 @@ module _ (t : Told) where
       completed = λ g. absurd (solvable_or_turned_down command (completable_solvable command g) h);
     }
 
-    refused_decided : IsRefused command (Some t) → IsDecided command (Some t) 4
+    refused_decided : IsRefused command (Some t) → DecidesStatus command (Some t) 4
     refused_decided h = record {
       absent = λ a. absurd (absent_or_refused command a h);
       too_long = λ a. absurd (longer_or_refused command a h);
@@ -244,7 +244,7 @@ module _ (t : Told) where
       completed = λ g. absurd (ready_or_refused command (completable_ready command g) h);
     }
 
-    read_fault_decided : IsDecided command (Some t) 7
+    read_fault_decided : DecidesStatus command (Some t) 7
     read_fault_decided = record {
       absent = λ _. inr (inl refl);
       too_long = λ _. inr (inl refl);
@@ -255,7 +255,7 @@ module _ (t : Told) where
       completed = λ _. inr (inl refl);
     }
 
-    write_fault_decided : IsCutShort command (Some t) after old new → IsDecided command (Some t) 8
+    write_fault_decided : IsTruncated command (Some t) after old new → DecidesStatus command (Some t) 8
     write_fault_decided h = let ready = cut_short_ready command after old new h in record {
       absent = λ a. absurd (ready_or_absent command ready a);
       too_long = λ a. absurd (ready_or_longer command ready a);
@@ -266,7 +266,7 @@ module _ (t : Told) where
       completed = λ _. inr (inr (inl refl));
     }
 
-    memory_decided : IsDecided command (Some t) 9
+    memory_decided : DecidesStatus command (Some t) 9
     memory_decided = record {
       absent = λ _. inr (inr refl);
       too_long = λ _. inr (inr refl);
@@ -277,7 +277,7 @@ module _ (t : Told) where
       completed = λ _. inr (inr (inr refl));
     }
 
-    too_long_decided : IsTooLong command (Some t) → IsDecided command (Some t) 10
+    too_long_decided : IsTooLong command (Some t) → DecidesStatus command (Some t) 10
     too_long_decided h = record {
       absent = λ a. absurd (absent_or_longer command a h);
       too_long = λ _. inl refl;
@@ -288,7 +288,7 @@ module _ (t : Told) where
       completed = λ g. absurd (ready_or_longer command (completable_ready command g) h);
     }
 
-    absent_decided : IsAbsent command (Some t) → IsDecided command (Some t) 11
+    absent_decided : IsAbsent command (Some t) → DecidesStatus command (Some t) 11
     absent_decided h = record {
       absent = λ _. inl refl;
       too_long = λ a. absurd (absent_or_longer command h a);
@@ -299,7 +299,7 @@ module _ (t : Told) where
       completed = λ g. absurd (ready_or_absent command (completable_ready command g) h);
     }
 
-    decided_of : (end : Result Bool Stop) → Ends command (Some t) after old new end → IsDecided command (Some t) (end_status end)
+    decided_of : (end : Result Bool Stop) → Ends command (Some t) after old new end → DecidesStatus command (Some t) (end_status end)
     decided_of (Ok true) h = printed_decided true (omega arith) h
     decided_of (Ok false) h = printed_decided false (omega arith) h
     decided_of (Err (BadText line)) h = turned_down_decided (turned_down_of command (Some t) (BadText line) h.0)
@@ -314,10 +314,10 @@ module _ (t : Told) where
 
 pub decided_where_told : (words : List (String Global)) (told after : Option Told) (old new : Option (List ℕ)) (end : Result Bool Stop) (status : ℕ)
     → status ≡ end_status end → Asked words (λ command. Ends command told after old new end)
-    → IfSome told (λ t. Asked words (λ command. IsDecided command (Some t) status))
+    → IfSome told (λ t. Asked words (λ command. DecidesStatus command (Some t) status))
 decided_where_told words None after old new end status is ends = tt
 decided_where_told words (Some t) after old new end status is ends = λ command asked.
-    subst (λ (n : ℕ). IsDecided command (Some t) n) (sym is) (decided_of t command after old new end (ends command asked))
+    subst (λ (n : ℕ). DecidesStatus command (Some t) n) (sym is) (decided_of t command after old new end (ends command asked))
 
 -- ---- the certificate that is turned down
 module _ (words : List (String Global)) (told after : Option Told) (out written : Option (List ℕ)) where

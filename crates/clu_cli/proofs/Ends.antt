@@ -4,10 +4,10 @@ use Rattle.std.specs.Prelude.{◌⊎◌, if◌then◌else◌, Result, IsErrAnd}
 use Rattle.clu_outside.specs.Counts.{last_count}
 use Rattle.clu_outside.specs.Folder.{Told, after_load, Holds, Lacks, IsStored, IsStoredPartly, CallsWithin, stores_of}
 use Rattle.clu_outside.specs.Sink.{TakesSome, with_bytes}
-use Rattle.clu_cert.specs.Text.{text}
+use Rattle.clu_cert.specs.Text.{cert_text}
 use Rattle.clu_cert.specs.declared.certificate.Certificate.{Certificate}
 use Rattle.clu_cli.specs.Headline.{Ends, FindsFault, Gives, GivesOnly, IsAnswer, IsBarred, IsProofOf, IsTurnedDownBy, NoneCertifies, Reports, Stores, StoresPartly, StopsAfter, max_bytes}
-use Rattle.clu_cli.specs.Steps.{IsKept, StopsCheck, StopsInput, StopsKeeping, StopsLoad, StopsWrite}
+use Rattle.clu_cli.specs.Steps.{IsKeptWhole, StopsCheck, StopsInput, StopsKeeping, StopsLoad, StopsWrite}
 use Rattle.clu_cli.specs.Instances.{IsInstance, Refuses}
 use Rattle.clu_cli.proofs.InstanceLaws.{one_instance}
 use Rattle.clu_cli.specs.Words.{Command, solve, check, form_of, graph_file}
@@ -120,11 +120,11 @@ ends_printed command before after old new printed optimal reports written = reco
 -- ---- the certificate of `solve`
 module _ (file : List ℕ) (form : Form) (before mid after : Option Told) (instance : Instance) (printed : List ℕ) (cert : Certificate) (limit status : ℕ)
     (found : GivesOnly file form before instance) (answers : IsAnswer instance printed cert limit status) (is : mid ≡ after_load file before) where
-  stores_here : (certificate : Option (List ℕ)) → IsKept certificate mid after cert → Stores file certificate before after cert
+  stores_here : (certificate : Option (List ℕ)) → IsKeptWhole certificate mid after cert → Stores file certificate before after cert
   stores_here None h = h ∙ is
-  stores_here (Some name) h = subst (λ (t : Option Told). IsStored t after name (text cert) × CallsWithin (stores_of (length (text cert))) t after) is h
+  stores_here (Some name) h = subst (λ (t : Option Told). IsStored t after name (cert_text cert) × CallsWithin (stores_of (length (cert_text cert))) t after) is h
 
-  pub solve_reports : (certificate : Option (List ℕ)) → IsKept certificate mid after cert → Reports (solve file form certificate limit) before after printed status
+  pub solve_reports : (certificate : Option (List ℕ)) → IsKeptWhole certificate mid after cert → Reports (solve file form certificate limit) before after printed status
   solve_reports certificate h = record {
     instance = instance;
     given = found;
@@ -137,7 +137,7 @@ module _ (file : List ℕ) (form : Form) (before mid after : Option Told) (insta
     unbegun : (command : Command) (stop : Stop) → after ≡ after_load (graph_file command) before → stop ≡ Memory → Ends command before after old new (Err stop)
     unbegun command stop now e = subst (λ (s : Stop). Ends command before after old new (Err s)) (sym e) (unmade command before after old new (inr now) same)
 
-    partly : (name : List ℕ) → IsStoredPartly mid after name (text cert) → CallsWithin (stores_of (length (text cert))) mid after
+    partly : (name : List ℕ) → IsStoredPartly mid after name (cert_text cert) → CallsWithin (stores_of (length (cert_text cert))) mid after
         → StoresPartly (solve file form (Some name) limit) before after old new
     partly name h few = record {
       file = file;
@@ -151,8 +151,8 @@ module _ (file : List ℕ) (form : Form) (before mid after : Option Told) (insta
       status = status;
       cert = cert;
       answer = answers;
-      stored = subst (λ (t : Option Told). IsStoredPartly t after name (text cert)) is h;
-      few = subst (λ (t : Option Told). CallsWithin (stores_of (length (text cert))) t after) is few;
+      stored = subst (λ (t : Option Told). IsStoredPartly t after name (cert_text cert)) is h;
+      few = subst (λ (t : Option Told). CallsWithin (stores_of (length (cert_text cert))) t after) is few;
       unwritten = same;
     }
 

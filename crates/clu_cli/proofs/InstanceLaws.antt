@@ -21,7 +21,7 @@ use Rattle.clu_objective.specs.declared.error.ObjError.{ObjError}
 use Rattle.clu_objective.specs.declared.error.ObjError.TheVariants.{NegativeWeight, NoWeight, TotalWeight, Memory}
 use Rattle.clu_objective.proofs.Poses.{one_problem as one_edit_problem}
 use Rattle.clu_objective.proofs.OneNetwork.{one_agreement, one_modularity}
-use Rattle.clu_cli.specs.Instances.{FailsToRead, IsEdgeList, IsInstance, Poses, Prints, Refuses, objective_of, scale_of, vertices_of, worth}
+use Rattle.clu_cli.specs.Instances.{FailsToRead, IsEdgeList, IsInstance, Poses, PrintsWorth, Refuses, objective_of, scale_of, vertices_of, worth}
 use Rattle.clu_cli.specs.declared.form.Form.{Form}
 use Rattle.clu_cli.specs.declared.form.Form.TheVariants as form
 use Rattle.clu_cli.specs.declared.instance.Instance.{Instance}
@@ -117,7 +117,7 @@ objective_posed (Edits graph) problem poses = poses.objective
 objective_posed (Agreement net) problem poses = poses.objective
 objective_posed (Modularity net) problem poses = poses.objective
 
-pub worth_printed : (instance : Instance) (problem : Posed) → Poses instance problem → Prints instance problem → (labels : List ℕ)
+pub worth_printed : (instance : Instance) (problem : Posed) → Poses instance problem → PrintsWorth instance problem → (labels : List ℕ)
     → length labels ≡ vertices_of instance → printed problem (value_on (weight_of problem.pairs) (slice_index labels) (below problem.pairs.n)) ≡ worth instance labels
 worth_printed (Edits graph) problem poses prints labels each =
     ap (λ (n : ℕ). printed problem (value_on (weight_of problem.pairs) (slice_index labels) (below n))) poses.vertices ∙ prints labels

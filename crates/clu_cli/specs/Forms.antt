@@ -40,24 +40,24 @@ abbrev pub paired : Format → Objective → Option Objective
 paired format chosen = if go_together format chosen then Some chosen else None
 
 -- the objective that the words of format and objective give
-abbrev pub objective_of : Option (List ℕ) → Option (List ℕ) → Option Objective
-objective_of None None = Some objective.Edits
-objective_of (Some format) None = option_map usual (format_named format)
-objective_of None (Some word) = objective_named word
-objective_of (Some format) (Some word) = option_and_then (λ f. option_and_then (paired f) (objective_named word)) (format_named format)
+abbrev pub asked_objective : Option (List ℕ) → Option (List ℕ) → Option Objective
+asked_objective None None = Some objective.Edits
+asked_objective (Some format) None = option_map usual (format_named format)
+asked_objective None (Some word) = objective_named word
+asked_objective (Some format) (Some word) = option_and_then (λ f. option_and_then (paired f) (objective_named word)) (format_named format)
 
 -- the number of decimal places that a word gives, if there is one
-abbrev pub IsPlaces : Option (List ℕ) → Option ℕ → Type 0
-IsPlaces None None = Unit {0}
-IsPlaces None (Some places) = ⊥
-IsPlaces (Some word) None = ⊥
-IsPlaces (Some word) (Some places) = IsU64 word places × (places ≤ 9)
+abbrev pub GivesDecimals : Option (List ℕ) → Option ℕ → Type 0
+GivesDecimals None None = Unit {0}
+GivesDecimals None (Some places) = ⊥
+GivesDecimals (Some word) None = ⊥
+GivesDecimals (Some word) (Some places) = IsU64 word places × (places ≤ 9)
 
 -- the form that options ask for
 abbrev pub IsForm : Given → Form → Type 0
-IsForm given Edits = (objective_of given.format given.objective ≡ Some objective.Edits) × (given.places ≡ None)
-IsForm given (Agreement places) = (objective_of given.format given.objective ≡ Some objective.Agreement) × IsPlaces given.places places
-IsForm given (Modularity places) = (objective_of given.format given.objective ≡ Some objective.Modularity) × IsPlaces given.places places
+IsForm given Edits = (asked_objective given.format given.objective ≡ Some objective.Edits) × (given.places ≡ None)
+IsForm given (Agreement places) = (asked_objective given.format given.objective ≡ Some objective.Agreement) × GivesDecimals given.places places
+IsForm given (Modularity places) = (asked_objective given.format given.objective ≡ Some objective.Modularity) × GivesDecimals given.places places
 
 -- at most so many decimal places as the limit allows are kept
 abbrev pub HasFewPlaces : Form → Type 0

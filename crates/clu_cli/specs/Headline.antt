@@ -2,12 +2,12 @@
 use Rattle.std.specs.Prelude.{◌≡◌, ◌≢◌, ◌⊎◌, ◌↔◌, ℕ, pos, ◌≤◌, ◌<◌, List, [], ◌∷◌, length, take, Bool, Option, Some, None, Result, Ok, Err, if◌then◌else◌}
 use Rattle.clu_outside.specs.Folder.{Told, after_load, Holds, HoldsMore, Lacks, IsStored, IsStoredPartly, CallsWithin, stores_of}
 use Rattle.clu_outside.specs.Sink.{TakesSome, with_bytes}
-use Rattle.clu_partition.specs.Closed.{Closed, IsOpen}
+use Rattle.clu_partition.specs.Closed.{Closed, BindsNothing}
 use Rattle.clu_partition.specs.Partition.{EachOnce, IsPartition, blocks_of}
 use Rattle.clu_objective.specs.Problem.{Posed}
-use Rattle.clu_cert.specs.Faults.{IsFault}
+use Rattle.clu_cert.specs.Faults.{IsCertFault}
 use Rattle.clu_cert.specs.Fits.{Fits}
-use Rattle.clu_cert.specs.Text.{text}
+use Rattle.clu_cert.specs.Text.{cert_text}
 use Rattle.clu_cert.specs.Valid.{IsValid}
 use Rattle.clu_cert.specs.declared.certificate.Certificate.{Certificate}
 use Rattle.clu_check.specs.Rejected.{IsRejected}
@@ -32,27 +32,27 @@ pub record Certifies (instance : Instance) (cert : Certificate) : Type 0 where
   pub problem : Posed
   pub poses : Poses instance problem
   pub start : Closed
-  pub unbound : IsOpen (vertices_of instance) start
+  pub unbound : BindsNothing (vertices_of instance) start
   pub valid : IsValid problem start cert
 
 -- the bytes are the text of no certificate that is valid for the instance
 abbrev pub NoneCertifies : Instance → List ℕ → Type 0
-NoneCertifies instance bytes = (cert : Certificate) → Fits cert → bytes ≡ text cert → Certifies instance cert → ⊥
+NoneCertifies instance bytes = (cert : Certificate) → Fits cert → bytes ≡ cert_text cert → Certifies instance cert → ⊥
 
 -- the first condition of a valid certificate that fails
 pub record IsFaulty (instance : Instance) (bytes : List ℕ) (found : Reject) : Type 0 where
   pub cert : Certificate
   pub fits : Fits cert
-  pub read : bytes ≡ text cert
+  pub read : bytes ≡ cert_text cert
   pub problem : Posed
   pub poses : Poses instance problem
   pub start : Closed
-  pub unbound : IsOpen (vertices_of instance) start
+  pub unbound : BindsNothing (vertices_of instance) start
   pub rejected : IsRejected problem start cert found
 
 -- why they are none: the first bad line, or the first condition that fails
 abbrev pub FindsFault : Instance → List ℕ → Stop → Type 0
-FindsFault instance bytes (BadText line) = IsFault bytes line
+FindsFault instance bytes (BadText line) = IsCertFault bytes line
 FindsFault instance bytes (Rejected found) = (found ≢ reject.Memory) × IsFaulty instance bytes found
 FindsFault instance bytes (Refused refusal) = ⊥
 FindsFault instance bytes Words = ⊥
@@ -68,7 +68,7 @@ pub record IsSearched (instance : Instance) (cert : Certificate) : Type 0 where
   pub problem : Posed
   pub poses : Poses instance problem
   pub start : Closed
-  pub unbound : IsOpen (vertices_of instance) start
+  pub unbound : BindsNothing (vertices_of instance) start
   pub valid : IsValid problem start cert
   pub exact : StatesItsBound problem start cert
   pub counted : branchings_of cert < count start
@@ -106,8 +106,8 @@ pub record IsAnswer (instance : Instance) (printed : List ℕ) (cert : Certifica
 pub record IsProofOf (instance : Instance) (bytes printed : List ℕ) : Type 0 where
   pub cert : Certificate
   pub fits : Fits cert
-  pub read : bytes ≡ text cert
-  pub only : (other : Certificate) → Fits other → bytes ≡ text other → other ≡ cert
+  pub read : bytes ≡ cert_text cert
+  pub only : (other : Certificate) → Fits other → bytes ≡ cert_text other → other ≡ cert
   pub certifies : Certifies instance cert
   pub partition : IsPartition (vertices_of instance) cert.labels
   pub value : cert.value ≡ worth instance cert.labels
@@ -122,20 +122,20 @@ abbrev pub max_bytes : ℕ
 max_bytes = 67108864
 
 -- the folder, where it tells, holds these bytes under the graph's name, and they are not too many
-pub record IsLoaded (file : List ℕ) (told : Option Told) (bytes : List ℕ) : Type 0 where
+pub record HoldsInput (file : List ℕ) (told : Option Told) (bytes : List ℕ) : Type 0 where
   pub held : Holds told file bytes
   pub small : length bytes ≤ max_bytes
 
 -- the file of this name, read in this form, is a text of the instance
 pub record Gives (file : List ℕ) (form : Form) (told : Option Told) (instance : Instance) : Type 0 where
   pub bytes : List ℕ
-  pub loaded : IsLoaded file told bytes
+  pub loaded : HoldsInput file told bytes
   pub read : IsInstance form bytes instance
 
 -- the same, and of no other instance
 pub record GivesOnly (file : List ℕ) (form : Form) (told : Option Told) (instance : Instance) : Type 0 where
   pub bytes : List ℕ
-  pub loaded : IsLoaded file told bytes
+  pub loaded : HoldsInput file told bytes
   pub read : IsInstance form bytes instance
   pub only : (other : Instance) → IsInstance form bytes other → other ≡ instance
 
@@ -167,8 +167,8 @@ pub record StopsAfter (command : Command) (loads : ℕ) (before after : Option T
 abbrev pub Stores : List ℕ → Option (List ℕ) → Option Told → Option Told → Certificate → Type 0
 Stores file None before after cert = after ≡ after_load file before
 Stores file (Some name) before after cert =
-    IsStored (after_load file before) after name (text cert)
-    × CallsWithin (stores_of (length (text cert))) (after_load file before) after
+    IsStored (after_load file before) after name (cert_text cert)
+    × CallsWithin (stores_of (length (cert_text cert))) (after_load file before) after
 
 -- ---- how a command ends
 -- the report of `solve`, at a time at which the certificate is stored
@@ -195,7 +195,7 @@ Reports (solve file form certificate limit) before after printed status = SolveR
 Reports (check file name form) before after printed status = CheckReports file name form before after printed status
 
 -- status 0 or 1: the sink, where it tells, has taken the command's report, and nothing else
-pub record Prints (command : Command) (before after : Option Told) (old new : Option (List ℕ)) (status : ℕ) : Type 0 where
+pub record PrintsReport (command : Command) (before after : Option Told) (old new : Option (List ℕ)) (status : ℕ) : Type 0 where
   pub printed : List ℕ
   pub reports : Reports command before after printed status
   pub written : new ≡ with_bytes old printed
@@ -221,14 +221,14 @@ pub record StoresPartly (command : Command) (before after : Option Told) (old ne
   pub status : ℕ
   pub cert : Certificate
   pub answer : IsAnswer instance printed cert limit status
-  pub stored : IsStoredPartly (after_load file before) after name (text cert)
-  pub few : CallsWithin (stores_of (length (text cert))) (after_load file before) after
+  pub stored : IsStoredPartly (after_load file before) after name (cert_text cert)
+  pub few : CallsWithin (stores_of (length (cert_text cert))) (after_load file before) after
   pub unwritten : new ≡ old
 
 -- status 8, and 9 where storing had begun: the certificate or the report is cut short, and the report is begun only where
 -- the certificate is whole
-abbrev pub IsCutShort : Command → Option Told → Option Told → Option (List ℕ) → Option (List ℕ) → Type 0
-IsCutShort command before after old new = StoresPartly command before after old new ⊎ WritesPartly command before after old new
+abbrev pub IsTruncated : Command → Option Told → Option Told → Option (List ℕ) → Option (List ℕ) → Type 0
+IsTruncated command before after old new = StoresPartly command before after old new ⊎ WritesPartly command before after old new
 
 -- the graph is one, and the other file is the text of no certificate that is valid for it
 abbrev pub IsTurnedDown : Command → Option Told → Type 0
@@ -245,13 +245,13 @@ IsTurnedDownBy (check file name form) told stop = (instance : Instance) × Gives
 -- the file of this name is a text of no instance
 pub record GivesNone (file : List ℕ) (form : Form) (told : Option Told) : Type 0 where
   pub bytes : List ℕ
-  pub loaded : IsLoaded file told bytes
+  pub loaded : HoldsInput file told bytes
   pub none : (instance : Instance) → IsInstance form bytes instance → ⊥
 
 -- and this is why
 pub record IsBarred (file : List ℕ) (form : Form) (told : Option Told) (refusal : Refusal) : Type 0 where
   pub bytes : List ℕ
-  pub loaded : IsLoaded file told bytes
+  pub loaded : HoldsInput file told bytes
   pub refuses : Refuses form bytes refusal
 
 -- the graph's file is none
@@ -282,7 +282,7 @@ StopsUnread command before after old new = (loads : ℕ) × (1 ≤ loads) × Sto
 -- status 9: want of memory came after some of the loads, or while storing or writing
 abbrev pub StopsUnmade : Command → Option Told → Option Told → Option (List ℕ) → Option (List ℕ) → Type 0
 StopsUnmade command before after old new =
-    ((loads : ℕ) × StopsAfter command loads before after old new) ⊎ IsCutShort command before after old new
+    ((loads : ℕ) × StopsAfter command loads before after old new) ⊎ IsTruncated command before after old new
 
 -- status 10: the graph's file is too long, after its load
 abbrev pub StopsTooLong : Command → Option Told → Option Told → Option (List ℕ) → Option (List ℕ) → Type 0
@@ -298,13 +298,13 @@ StopsAbsent (check file name form) before after old new =
 
 -- how a command ends, by the cause
 abbrev pub Ends : Command → Option Told → Option Told → Option (List ℕ) → Option (List ℕ) → Result Bool Stop → Type 0
-Ends command before after old new (Ok optimal) = Prints command before after old new (if optimal then 0 else 1)
+Ends command before after old new (Ok optimal) = PrintsReport command before after old new (if optimal then 0 else 1)
 Ends command before after old new (Err (BadText line)) = IsTurnedDownBy command before (BadText line) × StopsAfter command 2 before after old new
 Ends command before after old new (Err (Rejected found)) = IsTurnedDownBy command before (Rejected found) × StopsAfter command 2 before after old new
 Ends command before after old new (Err (Refused refusal)) = IsBarred (graph_file command) (form_of command) before refusal × StopsAfter command 1 before after old new
 Ends command before after old new (Err Words) = ⊥
 Ends command before after old new (Err ReadFault) = StopsUnread command before after old new
-Ends command before after old new (Err WriteFault) = IsCutShort command before after old new
+Ends command before after old new (Err WriteFault) = IsTruncated command before after old new
 Ends command before after old new (Err Memory) = StopsUnmade command before after old new
 Ends command before after old new (Err TooLong) = StopsTooLong command before after old new
 Ends command before after old new (Err NoFile) = StopsAbsent command before after old new
@@ -325,7 +325,7 @@ pub record TellsRefusal (command : Command) (told : Option Told) (old new : Opti
 -- the two files are a graph and the text of a certificate that is valid for it
 abbrev pub IsProven : Command → Option Told → Type 0
 IsProven (solve file form certificate limit) told = ⊥
-IsProven (check file name form) told = (instance : Instance) × Gives file form told instance × (cert : Certificate) × Fits cert × Holds told name (text cert) × Certifies instance cert
+IsProven (check file name form) told = (instance : Instance) × Gives file form told instance × (cert : Certificate) × Fits cert × Holds told name (cert_text cert) × Certifies instance cert
 
 -- the graph of `solve` is one
 abbrev pub IsSolvable : Command → Option Told → Type 0
@@ -335,12 +335,12 @@ IsSolvable (check file name form) told = ⊥
 -- the graph of `solve` is one, and as many branchings are allowed as its vertices have partitions
 abbrev pub IsCompletable : Command → Option Told → Type 0
 IsCompletable (solve file form certificate limit) told =
-    (instance : Instance) × Gives file form told instance × (start : Closed) × IsOpen (vertices_of instance) start × (count start ≤ limit)
+    (instance : Instance) × Gives file form told instance × (start : Closed) × BindsNothing (vertices_of instance) start × (count start ≤ limit)
 IsCompletable (check file name form) told = ⊥
 
 -- The command and the files decide the status, but where a read fault (7), a write fault (8) or want of memory (9) comes
 -- before it. A graph is solved, and to the end where as many branchings are allowed as its vertices have partitions.
-pub record IsDecided (command : Command) (told : Option Told) (status : ℕ) : Type 0 where
+pub record DecidesStatus (command : Command) (told : Option Told) (status : ℕ) : Type 0 where
   pub absent : IsAbsent command told → (status ≡ 11) ⊎ (status ≡ 7) ⊎ (status ≡ 9)
   pub too_long : IsTooLong command told → (status ≡ 10) ⊎ (status ≡ 7) ⊎ (status ≡ 9)
   pub refused : IsRefused command told → (status ≡ 4) ⊎ (status ≡ 7) ⊎ (status ≡ 9)

@@ -5,10 +5,10 @@ use Rattle.std.specs.List.{enumerate_from}
 use Rattle.clu_text.specs.Lines.{lines_of}
 use Rattle.clu_pace.specs.Numbers.{graph_names}
 use Rattle.clu_pace.specs.Pace.{IsAccepted}
-use Rattle.clu_pace.specs.Refusals.{IsRefused}
+use Rattle.clu_pace.specs.Refusals.{IsPaceFault}
 use Rattle.clu_pace.specs.declared.error.PaceError.TheVariants as pace
 use Rattle.clu_network.specs.Network.{Net}
-use Rattle.clu_network.specs.Reading.{Fails}
+use Rattle.clu_network.specs.Reading.{FailsNetwork}
 use Rattle.clu_network.specs.Scaling.{IsNetwork}
 use Rattle.clu_network.specs.declared.error.NetError.{NetError}
 use Rattle.clu_network.specs.declared.error.NetError.TheVariants as net_error
@@ -69,10 +69,10 @@ Poses (Agreement net) problem = PosesAgreement net problem
 Poses (Modularity net) problem = PosesModularity net problem
 
 -- the printed number of each partition is what it is worth
-abbrev pub Prints : Instance → Posed → Type 0
-Prints (Edits graph) problem = PrintsEdits graph problem
-Prints (Agreement net) problem = PrintsAgreement net problem
-Prints (Modularity net) problem = PrintsModularity net problem
+abbrev pub PrintsWorth : Instance → Posed → Type 0
+PrintsWorth (Edits graph) problem = PrintsEdits graph problem
+PrintsWorth (Agreement net) problem = PrintsAgreement net problem
+PrintsWorth (Modularity net) problem = PrintsModularity net problem
 
 -- ---- its text
 -- the bytes are an edge list of at most 1,000 vertices
@@ -108,11 +108,11 @@ IsInstance (form.Modularity places) bytes (Modularity net) = IsModular places by
 -- ---- why there is none
 -- the first line of an edge list that its reader refuses, and why
 abbrev pub FailsToRead : Option ℕ → List ℕ → NetError → Type 0
-FailsToRead places bytes error = (error ≢ net_error.Memory) × Fails places (enumerate_from 1 (lines_of bytes)) [] error
+FailsToRead places bytes error = (error ≢ net_error.Memory) × FailsNetwork places (enumerate_from 1 (lines_of bytes)) [] error
 
 -- the first line that is refused, or what bars the objective
 abbrev pub Refuses : Form → List ℕ → Refusal → Type 0
-Refuses form.Edits bytes (refusal.Graph error) = (error ≢ pace.Memory) × IsRefused bytes error
+Refuses form.Edits bytes (refusal.Graph error) = (error ≢ pace.Memory) × IsPaceFault bytes error
 Refuses form.Edits bytes (refusal.Network error) = ⊥
 Refuses form.Edits bytes (refusal.Objective error) = ⊥
 Refuses (form.Agreement places) bytes (refusal.Graph error) = ⊥

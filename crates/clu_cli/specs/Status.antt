@@ -65,16 +65,16 @@ network_line (net.NotText at) = counted_line (codes "clu: graph NotText line ") 
 network_line net.Memory = line (codes "clu: memory")
 
 -- the same of what bars an objective
-abbrev pub objective_line : ObjError → List ℕ
-objective_line (obj.NegativeWeight at) = counted_line (codes "clu: graph NegativeWeight line ") at
-objective_line obj.NoWeight = line (codes "clu: graph NoWeight")
-objective_line (obj.TotalWeight sum) = counted_line (codes "clu: graph TotalWeight ") sum
-objective_line obj.Memory = line (codes "clu: memory")
+abbrev pub barred_line : ObjError → List ℕ
+barred_line (obj.NegativeWeight at) = counted_line (codes "clu: graph NegativeWeight line ") at
+barred_line obj.NoWeight = line (codes "clu: graph NoWeight")
+barred_line (obj.TotalWeight sum) = counted_line (codes "clu: graph TotalWeight ") sum
+barred_line obj.Memory = line (codes "clu: memory")
 
 abbrev pub refusal_line : Refusal → List ℕ
 refusal_line (Graph error) = pace_line error
 refusal_line (Network error) = network_line error
-refusal_line (Objective error) = objective_line error
+refusal_line (Objective error) = barred_line error
 
 -- the number of the condition that fails, and its place; vertices are named from 1
 abbrev pub reject_line : Reject → List ℕ

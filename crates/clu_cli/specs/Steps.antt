@@ -4,7 +4,7 @@ use Rattle.std.specs.Global.{Vec}
 use Rattle.clu_outside.specs.Counts.{last_count}
 use Rattle.clu_outside.specs.Folder.{Told, Holds, HoldsMore, Lacks, IsStored, IsStoredPartly, CallsWithin, stores_of}
 use Rattle.clu_outside.specs.Sink.{TakesSome, with_bytes}
-use Rattle.clu_cert.specs.Text.{text}
+use Rattle.clu_cert.specs.Text.{cert_text}
 use Rattle.clu_cert.specs.declared.certificate.Certificate.{Certificate}
 use Rattle.clu_cli.specs.Headline.{FindsFault, IsBarred, NoneCertifies, max_bytes}
 use Rattle.clu_cli.specs.Instances.{FailsToRead, Refuses}
@@ -27,7 +27,7 @@ StopsLoad told name limit Words = ⊥
 StopsLoad told name limit WriteFault = ⊥
 
 -- a load gives the bytes under the name
-pub record Loads (told : Option Told) (name : List ℕ) (limit : ℕ) (result : Result (Vec ℕ) Stop) : Type 0 where
+pub record LoadGives (told : Option Told) (name : List ℕ) (limit : ℕ) (result : Result (Vec ℕ) Stop) : Type 0 where
   pub found : IfOk result (λ bytes. Holds told name bytes.items)
   pub within : limit < last_count → IfOk result (λ bytes. length bytes.items ≤ limit)
   pub stops : IfErr result (λ stop. StopsLoad told name limit stop)
@@ -83,15 +83,15 @@ StopsWrite TooLong = ⊥
 StopsWrite NoFile = ⊥
 
 -- the certificate is whole under the name, where one is given
-abbrev pub IsKept : Option (List ℕ) → Option Told → Option Told → Certificate → Type 0
-IsKept None old new cert = new ≡ old
-IsKept (Some name) old new cert = IsStored old new name (text cert) × CallsWithin (stores_of (length (text cert))) old new
+abbrev pub IsKeptWhole : Option (List ℕ) → Option Told → Option Told → Certificate → Type 0
+IsKeptWhole None old new cert = new ≡ old
+IsKeptWhole (Some name) old new cert = IsStored old new name (cert_text cert) × CallsWithin (stores_of (length (cert_text cert))) old new
 
 -- a name is given, and holds what it held or a prefix of the certificate
 abbrev pub IsKeptPartly : Option (List ℕ) → Option Told → Option Told → Certificate → Type 0
 IsKeptPartly None old new cert = ⊥
 IsKeptPartly (Some name) old new cert =
-    IsStoredPartly old new name (text cert) × CallsWithin (stores_of (length (text cert))) old new
+    IsStoredPartly old new name (cert_text cert) × CallsWithin (stores_of (length (cert_text cert))) old new
 
 -- the certificate was not begun for want of memory, or is cut short
 abbrev pub StopsKeeping : Option (List ℕ) → Option Told → Option Told → Certificate → Stop → Type 0
@@ -100,7 +100,7 @@ StopsKeeping name old new cert stop =
 
 -- what keeping a certificate leaves
 pub record Keeps {T : Type 0} (name : Option (List ℕ)) (old new : Option Told) (cert : Certificate) (result : Result T Stop) : Type 0 where
-  pub whole : OnOk result (IsKept name old new cert)
+  pub whole : OnOk result (IsKeptWhole name old new cert)
   pub stops : IfErr result (λ stop. StopsKeeping name old new cert stop)
 
 -- the bytes are printed whole, or a prefix of them

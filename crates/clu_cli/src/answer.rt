@@ -7,7 +7,7 @@ ghost use Rattle.clu_pace.specs.Numbers.{graph_names};
 ghost use Rattle.clu_partition.specs.Partition.{IsPartition};
 ghost use Rattle.clu_search.specs.Outcome.{branchings_of};
 ghost use Rattle.clu_cli.specs.Headline.{IsAnswer, IsSearched};
-ghost use Rattle.clu_cli.specs.Instances.{IsReached, Poses, Prints, names_of, objective_of, scale_of as scale_in, vertices_of, worth};
+ghost use Rattle.clu_cli.specs.Instances.{IsReached, Poses, PrintsWorth, names_of, objective_of, scale_of as scale_in, vertices_of, worth};
 ghost use Rattle.clu_cli.specs.Report.{report};
 
 use crate::instance::{Input, Instance, scale_of};
@@ -33,7 +33,7 @@ pub struct Answer {
 /// Solves an instance with this many branchings at most.
 pub fn answer_of(alloc: Global, input: &Input, branchings: u64) -> Result<Answer, AllocError>
     requires poses { Poses input.now.instance input.now.problem }
-    requires prints { Prints input.now.instance input.now.problem }
+    requires prints { PrintsWorth input.now.instance input.now.problem }
     ensures { IfOk result (λ answer.
         IsAnswer input.now.instance answer.text.items answer.certificate branchings
         (if answer.optimal then 0 else 1)) }
@@ -71,7 +71,7 @@ fn facts_of(input: &Input, found: &Outcome) -> Facts
 /// Searches for a best partition.
 fn search(alloc: Global, input: &Input, branchings: u64) -> Result<Outcome, AllocError>
     requires poses { Poses input.now.instance input.now.problem }
-    requires prints { Prints input.now.instance input.now.problem }
+    requires prints { PrintsWorth input.now.instance input.now.problem }
     ensures partition { IfOk result (λ o. IsPartition (vertices_of input.now.instance) o.partition) }
     ensures labels { IfOk result (λ o. o.certificate.labels ≡ o.partition) }
     ensures value { IfOk result (λ o. o.certificate.value ≡ worth input.now.instance o.partition) }

@@ -3,7 +3,7 @@
 
 ghost use Rattle.std.specs.Prelude.{IfErr, IfOk};
 ghost use Rattle.clu_cli.specs.Headline.{IsProofOf};
-ghost use Rattle.clu_cli.specs.Instances.{Poses, Prints};
+ghost use Rattle.clu_cli.specs.Instances.{Poses, PrintsWorth};
 ghost use Rattle.clu_cli.specs.Steps.{StopsCheck};
 
 use crate::instance::{Input, scale_of};
@@ -18,7 +18,7 @@ use std::alloc::Global;
 /// and want of memory.
 pub fn checked(alloc: Global, input: &Input, bytes: &[u8]) -> Result<Vec<u8>, Stop>
     requires poses { Poses input.now.instance input.now.problem }
-    requires prints { Prints input.now.instance input.now.problem }
+    requires prints { PrintsWorth input.now.instance input.now.problem }
     ensures proof { IfOk result (λ report. IsProofOf input.now.instance bytes.now report.items) }
     ensures stops { IfErr result (λ stop. StopsCheck input.now.instance bytes.now stop) }
 {

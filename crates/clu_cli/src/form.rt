@@ -3,7 +3,7 @@
 
 ghost use Rattle.std.specs.Prelude.{◌≡◌, ℕ, Option, MatchOption};
 ghost use Rattle.std.specs.Option.{option_map};
-ghost use Rattle.clu_cli.specs.Forms.{IsForm, IsPlaces, format_named, go_together as together, objective_named, objective_of, usual};
+ghost use Rattle.clu_cli.specs.Forms.{IsForm, GivesDecimals, format_named, go_together as together, objective_named, asked_objective, usual};
 ghost use Rattle.clu_cli.specs.Options.{given_by};
 
 use crate::options::Options;
@@ -98,7 +98,7 @@ fn go_together(format: Format, objective: Objective) -> bool
 
 /// The objective that the words of format and objective give.
 fn read_objective(format: Option<&str>, objective: Option<&str>) -> Option<Objective>
-    ensures { result ≡ objective_of (option_map (λ w. w.now) format.entry) (option_map (λ w. w.now) objective.entry) }
+    ensures { result ≡ asked_objective (option_map (λ w. w.now) format.entry) (option_map (λ w. w.now) objective.entry) }
 {
     match (format, objective) {
         (None, None) => Some(Objective::Edits),
@@ -118,8 +118,8 @@ fn read_objective(format: Option<&str>, objective: Option<&str>) -> Option<Objec
 
 /// The number of decimal places to keep, if one is given; `None` where the word is no such number.
 fn read_places(word: Option<&str>) -> Option<Option<u8>>
-    ensures { MatchOption result ((places : Option ℕ) → IsPlaces (option_map (λ w. w.now) word.entry) places → ⊥)
-        (λ places. IsPlaces (option_map (λ w. w.now) word.entry) places) }
+    ensures { MatchOption result ((places : Option ℕ) → GivesDecimals (option_map (λ w. w.now) word.entry) places → ⊥)
+        (λ places. GivesDecimals (option_map (λ w. w.now) word.entry) places) }
 {
     let Some(word) = word else {
         return Some(None);

@@ -4,7 +4,7 @@
 ghost use Rattle.std.specs.Prelude.{◌≡◌, ◌≤◌, IfErr, IfOk, IfSome, length};
 ghost use Rattle.clu_cli.specs.declared.form.Form.TheVariants as Asked;
 ghost use Rattle.clu_cli.specs.Forms.{HasFewPlaces};
-ghost use Rattle.clu_cli.specs.Instances.{IsEdgeList, IsInstance, Poses, Prints, names_of, objective_of, vertices_of};
+ghost use Rattle.clu_cli.specs.Instances.{IsEdgeList, IsInstance, Poses, PrintsWorth, names_of, objective_of, vertices_of};
 ghost use Rattle.clu_cli.specs.Steps.{StopsList, StopsReading};
 
 use crate::form::Form;
@@ -41,7 +41,7 @@ pub fn read_input(alloc: Global, bytes: &[u8], form: Form) -> Result<Input, Stop
     requires { HasFewPlaces form }
     ensures read { IfOk result (λ input. IsInstance form bytes.now input.instance) }
     ensures poses { IfOk result (λ input. Poses input.instance input.problem) }
-    ensures prints { IfOk result (λ input. Prints input.instance input.problem) }
+    ensures prints { IfOk result (λ input. PrintsWorth input.instance input.problem) }
     ensures stops { IfErr result (λ stop. StopsReading form bytes.now stop) }
 {
     match form {
@@ -55,7 +55,7 @@ pub fn read_input(alloc: Global, bytes: &[u8], form: Form) -> Result<Input, Stop
 fn read_graph(alloc: Global, bytes: &[u8]) -> Result<Input, Stop>
     ensures read { IfOk result (λ input. IsInstance Asked.Edits bytes.now input.instance) }
     ensures poses { IfOk result (λ input. Poses input.instance input.problem) }
-    ensures prints { IfOk result (λ input. Prints input.instance input.problem) }
+    ensures prints { IfOk result (λ input. PrintsWorth input.instance input.problem) }
     ensures stops { IfErr result (λ stop. StopsReading Asked.Edits bytes.now stop) }
 {
     let graph = match read_pace(alloc, bytes) {
@@ -88,7 +88,7 @@ fn read_agreement(alloc: Global, bytes: &[u8], places: Option<u8>) -> Result<Inp
     requires { IfSome places (λ k. k ≤ 9) }
     ensures read { IfOk result (λ input. IsInstance (Asked.Agreement places) bytes.now input.instance) }
     ensures poses { IfOk result (λ input. Poses input.instance input.problem) }
-    ensures prints { IfOk result (λ input. Prints input.instance input.problem) }
+    ensures prints { IfOk result (λ input. PrintsWorth input.instance input.problem) }
     ensures stops { IfErr result (λ stop. StopsReading (Asked.Agreement places) bytes.now stop) }
 {
     let network = read_list(alloc, bytes, places)?;
@@ -107,7 +107,7 @@ fn read_modularity(alloc: Global, bytes: &[u8], places: Option<u8>) -> Result<In
     requires { IfSome places (λ k. k ≤ 9) }
     ensures read { IfOk result (λ input. IsInstance (Asked.Modularity places) bytes.now input.instance) }
     ensures poses { IfOk result (λ input. Poses input.instance input.problem) }
-    ensures prints { IfOk result (λ input. Prints input.instance input.problem) }
+    ensures prints { IfOk result (λ input. PrintsWorth input.instance input.problem) }
     ensures stops { IfErr result (λ stop. StopsReading (Asked.Modularity places) bytes.now stop) }
 {
     let network = read_list(alloc, bytes, places)?;

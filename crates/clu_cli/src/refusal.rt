@@ -2,7 +2,7 @@
 //! cause by its name, and its place.
 
 ghost use Rattle.std.specs.Prelude.{◌≡◌, ◌++◌, OnOk};
-ghost use Rattle.clu_cli.specs.Status.{network_line, objective_line, pace_line, refusal_line};
+ghost use Rattle.clu_cli.specs.Status.{network_line, barred_line, pace_line, refusal_line};
 
 use crate::lines::{push_count, push_counted, push_counts, push_line};
 use clu_network::NetError;
@@ -71,7 +71,7 @@ fn push_network(out: &mut Vec<u8>, error: NetError) -> Result<(), AllocError>
 
 /// The line of what bars an objective.
 fn push_objective(out: &mut Vec<u8>, error: ObjError) -> Result<(), AllocError>
-    ensures { OnOk result (out.new.items ≡ out.old.items ++ objective_line error) }
+    ensures { OnOk result (out.new.items ≡ out.old.items ++ barred_line error) }
 {
     match error {
         ObjError::NegativeWeight { line } => push_count(

@@ -8,10 +8,10 @@ ghost use Rattle.clu_outside.specs.Folder.{after_load};
 ghost use Rattle.clu_outside.specs.Sink.{TakesSome};
 ghost use Rattle.clu_cert.specs.Fits.{Fits};
 ghost use Rattle.clu_cli.specs.Forms.{HasFewPlaces};
-ghost use Rattle.clu_cli.specs.Headline.{Gives, GivesOnly, Prints as PrintsReport, StopsTurnedDown, StopsRefused, StopsUnread, StopsUnmade, StopsTooLong, StopsAbsent, IsCutShort, IsDecided, TellsFault, TellsRefusal, Ends};
-ghost use Rattle.clu_cli.specs.Instances.{Poses, Prints};
+ghost use Rattle.clu_cli.specs.Headline.{Gives, GivesOnly, PrintsReport, StopsTurnedDown, StopsRefused, StopsUnread, StopsUnmade, StopsTooLong, StopsAbsent, IsTruncated, DecidesStatus, TellsFault, TellsRefusal, Ends};
+ghost use Rattle.clu_cli.specs.Instances.{Poses, PrintsWorth};
 ghost use Rattle.clu_cli.specs.Status.{end_status, is_status, stop_line, WritesLine};
-ghost use Rattle.clu_cli.specs.Steps.{Keeps, Loads, PrintsBytes, StopsInput};
+ghost use Rattle.clu_cli.specs.Steps.{Keeps, LoadGives, PrintsBytes, StopsInput};
 ghost use Rattle.clu_cli.specs.Words.{Command as Asks, IsCommand, Asked, solve as solves, check as checks};
 
 use crate::answer::answer_of;
@@ -29,7 +29,7 @@ const MAX_BYTES: u64 = 67_108_864;
 
 /// The bytes under a name, unless they are longer than the limit.
 fn load<F: Folder>(alloc: Global, folder: &mut F, name: &str, limit: u64) -> Result<Vec<u8>, Stop>
-    ensures tells { Loads (F.told folder.old) name.now limit result }
+    ensures tells { LoadGives (F.told folder.old) name.now limit result }
     ensures later { (IsErrOf result Stop.Memory → ⊥)
         → F.told folder.new ≡ after_load name.now (F.told folder.old) }
     ensures memory { IsErrOf result Stop.Memory → (F.told folder.new ≡ F.told folder.old)
@@ -59,7 +59,7 @@ fn read_file<F: Folder>(
     requires few { HasFewPlaces form }
     ensures found { IfOk result (λ input. GivesOnly file.now form (F.told folder.old) input.instance) }
     ensures poses { IfOk result (λ input. Poses input.instance input.problem) }
-    ensures prints { IfOk result (λ input. Prints input.instance input.problem) }
+    ensures prints { IfOk result (λ input. PrintsWorth input.instance input.problem) }
     ensures stops { IfErr result (λ stop. StopsInput (F.told folder.old) file.now form stop) }
     ensures later { (IsErrOf result Stop.Memory → ⊥)
         → F.told folder.new ≡ after_load file.now (F.told folder.old) }
@@ -285,7 +285,7 @@ pub fn run<F: Folder, O: Sink, E: Sink>(
         (F.told folder.old) (F.told folder.new) (O.written out.old) (O.written out.new)) }
     ensures unread { result ≡ 7 → Asked words.now (λ command. StopsUnread command
         (F.told folder.old) (F.told folder.new) (O.written out.old) (O.written out.new)) }
-    ensures cut_short { result ≡ 8 → Asked words.now (λ command. IsCutShort command
+    ensures cut_short { result ≡ 8 → Asked words.now (λ command. IsTruncated command
         (F.told folder.old) (F.told folder.new) (O.written out.old) (O.written out.new)) }
     ensures memory { result ≡ 9 → Asked words.now (λ command. StopsUnmade command
         (F.told folder.old) (F.told folder.new) (O.written out.old) (O.written out.new)) }
@@ -298,7 +298,7 @@ pub fn run<F: Folder, O: Sink, E: Sink>(
     ensures unprinted { result ≡ 6 → O.written out.new ≡ O.written out.old }
     ensures known { IsTrue (is_status result) }
     ensures decided { IfSome (F.told folder.old) (λ told.
-        Asked words.now (λ command. IsDecided command (Some told) result)) }
+        Asked words.now (λ command. DecidesStatus command (Some told) result)) }
 
     // The faults that are counted.
     ensures read_fault { result ≡ 7 → Rose (F.load_faults folder.old) (F.load_faults folder.new) }

@@ -4,7 +4,7 @@
 ghost use Rattle.std.specs.Prelude.{◌≡◌, ◌↔◌, ℕ, [], ◌∷◌, List, Option, IsTrue, MatchOption, codes, map, string_bytes};
 ghost use Rattle.std.specs.Option.{option_map};
 ghost use Rattle.clu_cli.specs.declared.form.Form.{Form as Asked};
-ghost use Rattle.clu_cli.specs.Words.{AllowsBranchings, AreWords, IsCheck, IsCommand, IsNamed, IsPlain, IsSolve, Command as Asks, asked_by};
+ghost use Rattle.clu_cli.specs.Words.{AllowsBranchings, AreWords, IsCheck, IsCommand, GivesName, IsPlain, IsSolve, Command as Asks, asked_by};
 
 use crate::form::{Form, read_form};
 use crate::options::read_options;
@@ -114,8 +114,8 @@ fn read_check<'a>(file: &'a str, rest: &'a [String]) -> Option<Command<'a>>
 /// The name under which the certificate is stored, if one is given; `None` where the word is no name.
 fn read_name(word: Option<&str>) -> Option<Option<&str>>
     ensures { MatchOption result
-        ((name : Option (List ℕ)) → IsNamed (option_map (λ w. w.now) word.entry) name → ⊥)
-        (λ name. IsNamed (option_map (λ w. w.now) word.entry) (option_map (λ n. n.now) name)) }
+        ((name : Option (List ℕ)) → GivesName (option_map (λ w. w.now) word.entry) name → ⊥)
+        (λ name. GivesName (option_map (λ w. w.now) word.entry) (option_map (λ n. n.now) name)) }
 {
     match word {
         Some(word) => {

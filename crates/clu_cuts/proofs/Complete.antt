@@ -12,7 +12,7 @@ use Rattle.clu_state.specs.State.{State, IsState, leader, group_leaders}
 use Rattle.clu_state.proofs.Bridge.{leader_among, state_are_groups}
 use Rattle.clu_cuts.specs.declared.point.Point.{Point}
 use Rattle.clu_cuts.specs.declared.point.Cut.{Cut}
-use Rattle.clu_cuts.specs.Point.{TwoSetAt, AreGroups, listed, share}
+use Rattle.clu_cuts.specs.Point.{TwoSetAt, AreGroups, listed_share, share}
 use Rattle.clu_cuts.specs.Stars.{breaks, broken, first_broken, star, each_one, each_pair, with_two, with_two_more, with_three, triangles, claws}
 use Rattle.clu_cuts.proofs.Tests.{not_past}
 
@@ -89,11 +89,11 @@ pair_turn a b x z = either (a == x && b == z) (a == z && b == x)
     either false true = refl
     either false false = refl
 
-listed_turn : (pairs : List (ℕ × ℕ)) (xs : List ℤ) (a b : ℕ) → listed pairs xs a b ≡ listed pairs xs b a
+listed_turn : (pairs : List (ℕ × ℕ)) (xs : List ℤ) (a b : ℕ) → listed_share pairs xs a b ≡ listed_share pairs xs b a
 listed_turn [] xs a b = refl
 listed_turn (pair ∷ pairs) [] a b = refl
 listed_turn (pair ∷ pairs) (x ∷ xs) a b =
-    ap (λ t. cond t x (listed pairs xs a b)) (pair_turn pair.0 pair.1 a b) ∙ ap (λ y. cond (are_pair pair.0 pair.1 b a) x y) (listed_turn pairs xs a b)
+    ap (λ t. cond t x (listed_share pairs xs a b)) (pair_turn pair.0 pair.1 a b) ∙ ap (λ y. cond (are_pair pair.0 pair.1 b a) x y) (listed_turn pairs xs a b)
 
 pub share_turn : (p : Point) (a b : ℕ) → share p a b ≡ share p b a
 share_turn p a b = listed_turn p.pairs p.x a b

@@ -13,7 +13,7 @@ use Rattle.clu_state.proofs.Bridge.{state_are_groups, each_here, each_from}
 use Rattle.clu_state.proofs.FreePairs.{IsFreePair, all_free}
 use Rattle.clu_cuts.specs.declared.point.Point.{Point}
 use Rattle.clu_cuts.specs.declared.point.Cut.{Cut}
-use Rattle.clu_cuts.specs.Point.{IsPoint, listed, share}
+use Rattle.clu_cuts.specs.Point.{IsPoint, listed_share, share}
 use Rattle.clu_cuts.specs.Stars.{breaks, broken, first_broken, star, pairs_with, with_two, triangles_at, triangles, triples_with, with_two_more, with_three, claws_at, claws}
 use Rattle.clu_cuts.specs.Cuts.{IsTriangle, IsClaw, IsViolated}
 use Rattle.clu_cuts.proofs.Front.{front_short}
@@ -87,12 +87,12 @@ both_all P Q R f (c ∷ cuts) a b = All-cons R c cuts (f c (All-head P c cuts a)
 
 -- ---- a violated triangle names three groups
 -- no group has a share with itself
-listed_same : (pairs : List (ℕ × ℕ)) (xs : List ℤ) (a : ℕ) → All (λ q. q.0 ≢ q.1) pairs → listed pairs xs a a ≡ pos 0
+listed_same : (pairs : List (ℕ × ℕ)) (xs : List ℤ) (a : ℕ) → All (λ q. q.0 ≢ q.1) pairs → listed_share pairs xs a a ≡ pos 0
 listed_same [] xs a all = refl
 listed_same (pair ∷ pairs) [] a all = refl
 listed_same (pair ∷ pairs) (x ∷ xs) a all =
     let differ = All-head (λ (q : ℕ × ℕ). q.0 ≢ q.1) pair pairs all in
-    ap (λ t. cond t x (listed pairs xs a a)) (not_pair pair.0 pair.1 a a (λ h. differ (h.0 ∙ sym h.1)) (λ h. differ (h.0 ∙ sym h.1)))
+    ap (λ t. cond t x (listed_share pairs xs a a)) (not_pair pair.0 pair.1 a a (λ h. differ (h.0 ∙ sym h.1)) (λ h. differ (h.0 ∙ sym h.1)))
     ∙ listed_same pairs xs a (All-tail (λ (q : ℕ × ℕ). q.0 ≢ q.1) pair pairs all)
 
 pub share_same : (s : State) (p : Point) (a : ℕ) → IsState s → IsPoint s p → share p a a ≡ pos 0

@@ -18,7 +18,7 @@ use Rattle.clu_state.specs.State.{State, IsState, leader, are_apart, group_leade
 use Rattle.clu_state.proofs.Bridge.{contains_from, state_are_groups}
 use Rattle.clu_state.proofs.FreePairs.{all_free}
 use Rattle.clu_cuts.proofs.Tests.{InRange}
-use Rattle.clu_cuts.specs.Point.{listed}
+use Rattle.clu_cuts.specs.Point.{listed_share}
 
 pub found_at : (groups : List ℕ) (v : ℕ) (r : Result ℕ ℕ) (i : ℕ) → r ≡ Ok i → ((i j : ℕ) → i < j → j < length groups → slice_index groups i < slice_index groups j)
     → IsBinarySearchResult (λ y. nat_cmp y v) groups r → slice_index groups i ≡ v
@@ -38,15 +38,15 @@ Apart groups = (i j : ℕ) → i < length groups → j < length groups → slice
 
 pub filled : (groups : List ℕ) (t : Pairs) (i j : ℕ) (p : ℕ × ℕ) (x : ℤ) (pairs : List (ℕ × ℕ)) (xs : List ℤ) → Apart groups → t.n ≡ length groups
     → IsGrid t → i < length groups → j < length groups → p.0 ≢ p.1 → slice_index groups i ≡ p.0 → slice_index groups j ≡ p.1
-    → ((a b : ℕ) → a < length groups → b < length groups → weight_of t a b ≡ listed pairs xs (slice_index groups a) (slice_index groups b))
-    → (a b : ℕ) → a < length groups → b < length groups → weight_of (with_weight t i j x) a b ≡ listed (p ∷ pairs) (x ∷ xs) (slice_index groups a) (slice_index groups b)
+    → ((a b : ℕ) → a < length groups → b < length groups → weight_of t a b ≡ listed_share pairs xs (slice_index groups a) (slice_index groups b))
+    → (a b : ℕ) → a < length groups → b < length groups → weight_of (with_weight t i j x) a b ≡ listed_share (p ∷ pairs) (x ∷ xs) (slice_index groups a) (slice_index groups b)
 filled groups t i j p x pairs xs once n is li lj differ ei ej old a b la lb = ⊎_elim
-    (λ (e : (a ≡ i) × (b ≡ j)). subst (λ a. weight_of (with_weight t i j x) a b ≡ listed (p ∷ pairs) (x ∷ xs) (slice_index groups a) (slice_index groups b)) (sym e.0)
-    (subst (λ b. weight_of (with_weight t i j x) i b ≡ listed (p ∷ pairs) (x ∷ xs) (slice_index groups i) (slice_index groups b)) (sym e.1)
+    (λ (e : (a ≡ i) × (b ≡ j)). subst (λ a. weight_of (with_weight t i j x) a b ≡ listed_share (p ∷ pairs) (x ∷ xs) (slice_index groups a) (slice_index groups b)) (sym e.0)
+    (subst (λ b. weight_of (with_weight t i j x) i b ≡ listed_share (p ∷ pairs) (x ∷ xs) (slice_index groups i) (slice_index groups b)) (sym e.1)
     (here i j x ij li' lj' ∙ sym (taken (slice_index groups i) (slice_index groups j) (inl (sym ei, sym ej))))))
     (λ off. ⊎_elim
-    (λ (e : (a ≡ j) × (b ≡ i)). subst (λ a. weight_of (with_weight t i j x) a b ≡ listed (p ∷ pairs) (x ∷ xs) (slice_index groups a) (slice_index groups b)) (sym e.0)
-    (subst (λ b. weight_of (with_weight t i j x) j b ≡ listed (p ∷ pairs) (x ∷ xs) (slice_index groups j) (slice_index groups b)) (sym e.1)
+    (λ (e : (a ≡ j) × (b ≡ i)). subst (λ a. weight_of (with_weight t i j x) a b ≡ listed_share (p ∷ pairs) (x ∷ xs) (slice_index groups a) (slice_index groups b)) (sym e.0)
+    (subst (λ b. weight_of (with_weight t i j x) j b ≡ listed_share (p ∷ pairs) (x ∷ xs) (slice_index groups j) (slice_index groups b)) (sym e.1)
     (weight_sym (with_weight t i j x) j i ∙ here i j x ij li' lj' ∙ sym (taken (slice_index groups j) (slice_index groups i) (inr (sym ei, sym ej))))))
     (λ nor. set_other t i j a b x li' lj' (omega (arith, n, la)) (omega (arith, n, lb)) (λ h. not_same off nor h)
     ∙ old a b la lb
@@ -68,11 +68,11 @@ filled groups t i j p x pairs xs once n is li lj differ ei ej old a b la lb = �
     here : (i j : ℕ) (x : ℤ) → i ≢ j → i < t.n → j < t.n → weight_of (with_weight t i j x) i j ≡ x
     here i j x d p q = set_same t i j x p q d is
 
-    taken : (u v : ℕ) → (p.0 ≡ u) × (p.1 ≡ v) ⊎ (p.0 ≡ v) × (p.1 ≡ u) → listed (p ∷ pairs) (x ∷ xs) u v ≡ x
-    taken u v h = ap (λ t. cond t x (listed pairs xs u v)) (is_pair p.0 p.1 u v h)
+    taken : (u v : ℕ) → (p.0 ≡ u) × (p.1 ≡ v) ⊎ (p.0 ≡ v) × (p.1 ≡ u) → listed_share (p ∷ pairs) (x ∷ xs) u v ≡ x
+    taken u v h = ap (λ t. cond t x (listed_share pairs xs u v)) (is_pair p.0 p.1 u v h)
 
-    passed : (u v : ℕ) → ((p.0 ≡ u) × (p.1 ≡ v) → ⊥) → ((p.0 ≡ v) × (p.1 ≡ u) → ⊥) → listed (p ∷ pairs) (x ∷ xs) u v ≡ listed pairs xs u v
-    passed u v n m = ap (λ t. cond t x (listed pairs xs u v)) (not_pair p.0 p.1 u v n m)
+    passed : (u v : ℕ) → ((p.0 ≡ u) × (p.1 ≡ v) → ⊥) → ((p.0 ≡ v) × (p.1 ≡ u) → ⊥) → listed_share (p ∷ pairs) (x ∷ xs) u v ≡ listed_share pairs xs u v
+    passed u v n m = ap (λ t. cond t x (listed_share pairs xs u v)) (not_pair p.0 p.1 u v n m)
 
     which : (a i b j : ℕ) → (a ≡ i) × (b ≡ j) ⊎ ((a ≡ i) × (b ≡ j) → ⊥)
     which a i b j = ⊎_elim (λ e. ⊎_elim (λ f. inl (e, f)) (λ d. inr (λ h. d h.1)) (cases_eq b j)) (λ d. inr (λ h. d h.0)) (cases_eq a i)
@@ -136,14 +136,14 @@ rise_apart groups up i j li lj e = ⊎_elim
 pub more_filled : (groups : List ℕ) (t new : Pairs) (i j k : ℕ) (d : ℕ × ℕ) (x y : ℤ) (pairs : List (ℕ × ℕ)) (xs : List ℤ) → Apart groups → t.n ≡ length groups
     → IsGrid t → i < length groups → j < length groups → InGroups groups (get_or pairs k d) → slice_index groups i ≡ (get_or pairs k d).0
     → slice_index groups j ≡ (get_or pairs k d).1 → k < length pairs → k < length xs → y ≡ get_or xs k x → new ≡ with_weight t i j y
-    → ((a b : ℕ) → a < length groups → b < length groups → weight_of t a b ≡ listed (drop (k + 1) pairs) (drop (k + 1) xs) (slice_index groups a) (slice_index groups b))
-    → (a b : ℕ) → a < length groups → b < length groups → weight_of new a b ≡ listed (drop k pairs) (drop k xs) (slice_index groups a) (slice_index groups b)
+    → ((a b : ℕ) → a < length groups → b < length groups → weight_of t a b ≡ listed_share (drop (k + 1) pairs) (drop (k + 1) xs) (slice_index groups a) (slice_index groups b))
+    → (a b : ℕ) → a < length groups → b < length groups → weight_of new a b ≡ listed_share (drop k pairs) (drop k xs) (slice_index groups a) (slice_index groups b)
 more_filled groups t new i j k d x y pairs xs once n is li lj both ei ej lp lx ey e old a b la lb =
     ap (λ (t : Pairs). weight_of t a b) e
     ∙ filled groups t i j (get_or pairs k d) y (drop (k + 1) pairs) (drop (k + 1) xs) once n is li lj both.differ ei ej old a b la lb
-    ∙ ap (λ z. listed (get_or pairs k d ∷ drop (k + 1) pairs) (z ∷ drop (k + 1) xs) (slice_index groups a) (slice_index groups b)) ey
-    ∙ ap (λ ps. listed ps (get_or xs k x ∷ drop (k + 1) xs) (slice_index groups a) (slice_index groups b)) (sym (drop_more pairs k d lp))
-    ∙ ap (λ zs. listed (drop k pairs) zs (slice_index groups a) (slice_index groups b)) (sym (drop_more xs k x lx))
+    ∙ ap (λ z. listed_share (get_or pairs k d ∷ drop (k + 1) pairs) (z ∷ drop (k + 1) xs) (slice_index groups a) (slice_index groups b)) ey
+    ∙ ap (λ ps. listed_share ps (get_or xs k x ∷ drop (k + 1) xs) (slice_index groups a) (slice_index groups b)) (sym (drop_more pairs k d lp))
+    ∙ ap (λ zs. listed_share (drop k pairs) zs (slice_index groups a) (slice_index groups b)) (sym (drop_more xs k x lx))
 
 -- a share of the list is in range
 pub All-at : (den : ℤ) (x xs : List ℤ) (k : ℕ) → All (InRange den) x → xs ≡ x → k < length xs → InRange den (get_or xs k (pos 0))

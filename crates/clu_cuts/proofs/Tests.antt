@@ -11,20 +11,20 @@ use Rattle.std.proofs.Common.{slice_index}
 use Rattle.clu_state.specs.State.{State}
 use Rattle.clu_cuts.specs.declared.point.Point.{Point}
 use Rattle.clu_cuts.specs.declared.shares.Shares.{Shares}
-use Rattle.clu_cuts.specs.Point.{IsPoint, listed, share}
+use Rattle.clu_cuts.specs.Point.{IsPoint, listed_share, share}
 use Rattle.clu_cuts.specs.Stars.{breaks, star}
 
 -- ---- a share is from 0 to the denominator
 abbrev pub InRange : ℤ → ℤ → Type 0
 InRange den x = (pos 0 ≤ℤ x) × (x ≤ℤ den)
 
-pub range : (den : ℤ) (pairs : List (ℕ × ℕ)) (xs : List ℤ) (a b : ℕ) → pos 0 ≤ℤ den → All (InRange den) xs → InRange den (listed pairs xs a b)
+pub range : (den : ℤ) (pairs : List (ℕ × ℕ)) (xs : List ℤ) (a b : ℕ) → pos 0 ≤ℤ den → All (InRange den) xs → InRange den (listed_share pairs xs a b)
 range den [] xs a b p all = (omega (arith, ints), p)
 range den (pair ∷ pairs) [] a b p all = (omega (arith, ints), p)
 range den (pair ∷ pairs) (x ∷ xs) a b p all =
     by_test (are_pair pair.0 pair.1 a b) (All-head (InRange den) x xs all) (range den pairs xs a b p (All-tail (InRange den) x xs all))
   where
-    by_test : (t : Bool) → InRange den x → InRange den (listed pairs xs a b) → InRange den (cond t x (listed pairs xs a b))
+    by_test : (t : Bool) → InRange den x → InRange den (listed_share pairs xs a b) → InRange den (cond t x (listed_share pairs xs a b))
     by_test true h i = h
     by_test false h i = i
 

@@ -7,13 +7,13 @@ use Rattle.clu_partition.specs.Groups.{NamesOnce}
 use Rattle.clu_cuts.specs.declared.point.Point.{Point}
 
 -- the share of two groups: of a listed pair, in either order, the number beside it, and else 0
-abbrev pub listed : List (ℕ × ℕ) → List ℤ → ℕ → ℕ → ℤ
-listed [] xs a b = pos 0
-listed (pair ∷ pairs) [] a b = pos 0
-listed (pair ∷ pairs) (x ∷ xs) a b = if are_pair pair.0 pair.1 a b then x else listed pairs xs a b
+abbrev pub listed_share : List (ℕ × ℕ) → List ℤ → ℕ → ℕ → ℤ
+listed_share [] xs a b = pos 0
+listed_share (pair ∷ pairs) [] a b = pos 0
+listed_share (pair ∷ pairs) (x ∷ xs) a b = if are_pair pair.0 pair.1 a b then x else listed_share pairs xs a b
 
 abbrev pub share : Point → ℕ → ℕ → ℤ
-share p = listed p.pairs p.x
+share p = listed_share p.pairs p.x
 
 -- a number for each free pair, from 0 to the denominator
 pub record IsPoint (s : State) (p : Point) : Type 0 where

@@ -10,7 +10,7 @@ use Rattle.clu_text.specs.Lines.{fields_of, lines_of}
 use Rattle.clu_network.specs.Entries.{Weighs}
 use Rattle.clu_network.specs.NameList.{with_name, with_names, number_of}
 use Rattle.clu_network.specs.Network.{Net}
-use Rattle.clu_network.specs.Reading.{is_kept, IsText, Adds, Joins, Reads}
+use Rattle.clu_network.specs.Reading.{is_kept_in_network, IsKeptText, AddsNames, AddsJoint, ReadsNetwork}
 use Rattle.clu_network.specs.Scaling.{scaled_to, IsNetwork}
 use Rattle.clu_network.specs.Telling.{names_in, all_names_in, has_two, numbers_in, IsLineOf}
 use Rattle.clu_network.specs.declared.network.NetLine.{NetLine}
@@ -47,17 +47,17 @@ placed_by false names name is = ap (slice_get (names ++ name ∷ [])) (none_pass
 placed : (names : List (List ℕ)) (name : List ℕ) → slice_get (with_name names name) (number_of names name) ≡ Some name
 placed names name = placed_by (list_any (bytes_eq name) names) names name refl
 
-added_stays : (old : List (List ℕ)) (bytes : List ℕ) (next : List (List ℕ)) (k : ℕ) (x : List ℕ) → Adds old bytes next → slice_get old k ≡ Some x → slice_get next k ≡ Some x
+added_stays : (old : List (List ℕ)) (bytes : List ℕ) (next : List (List ℕ)) (k : ℕ) (x : List ℕ) → AddsNames old bytes next → slice_get old k ≡ Some x → slice_get next k ≡ Some x
 added_stays old bytes next k x a e = ⊎_elim
     (λ h. ap (λ (ns : List (List ℕ)). slice_get ns k) h.1 ∙ e)
     (λ h. ap (λ (ns : List (List ℕ)). slice_get ns k) h.3 ∙ stays old h.1 k x e)
     a
 
-joined_stays : (cut : Option ℕ) (old : List (List ℕ)) (number : ℕ) (bytes : List ℕ) (next : List (List ℕ)) (joint : Joint) (k : ℕ) (x : List ℕ) → Joins cut old number bytes next joint → slice_get old k ≡ Some x → slice_get next k ≡ Some x
+joined_stays : (cut : Option ℕ) (old : List (List ℕ)) (number : ℕ) (bytes : List ℕ) (next : List (List ℕ)) (joint : Joint) (k : ℕ) (x : List ℕ) → AddsJoint cut old number bytes next joint → slice_get old k ≡ Some x → slice_get next k ≡ Some x
 joined_stays cut old number bytes next joint k x j e =
     ap (λ (ns : List (List ℕ)). slice_get ns k) j.names ∙ stays (with_name old j.u) j.v k x (stays old j.u k x e)
 
-all_stay : (cut : Option ℕ) (lines : List (ℕ × List ℕ)) (old names : List (List ℕ)) (joints : List Joint) (k : ℕ) (x : List ℕ) → Reads cut lines old names joints → slice_get old k ≡ Some x → slice_get names k ≡ Some x
+all_stay : (cut : Option ℕ) (lines : List (ℕ × List ℕ)) (old names : List (List ℕ)) (joints : List Joint) (k : ℕ) (x : List ℕ) → ReadsNetwork cut lines old names joints → slice_get old k ≡ Some x → slice_get names k ≡ Some x
 all_stay cut [] old names joints k x r e = ap (λ (ns : List (List ℕ)). slice_get ns k) (sym r.0) ∙ e
 all_stay cut (line ∷ lines) old names joints k x r e = ⊎_elim
     (λ h. all_stay cut lines r.0 names joints k x h.1 (added_stays old line.1 r.0 k x h.0.1 e))
@@ -70,7 +70,7 @@ record IsJointOf (cut : Option ℕ) (first : ℕ) (lines names : List (List ℕ)
   text : List ℕ
   number : joint.line ≡ place + first
   there : slice_get lines place ≡ Some text
-  kept : IsText text
+  kept : IsKeptText text
   u : List ℕ
   v : List ℕ
   says : Weighs cut (fields_of text) u v joint.weight
@@ -83,7 +83,7 @@ later cut first line lines names joint is =
     record { place = suc is.place; text = is.text; number = number; there = is.there; kept = is.kept; u = is.u; v = is.v; says = is.says; u_is = is.u_is; v_is = is.v_is }
 
 here : (cut : Option ℕ) (first : ℕ) (line : List ℕ) (lines old next names : List (List ℕ)) (joint : Joint) (joints : List Joint)
-    → Joins cut old first line next joint → Reads cut (enumerate_from (first + 1) lines) next names joints → IsJointOf cut first (line ∷ lines) names joint
+    → AddsJoint cut old first line next joint → ReadsNetwork cut (enumerate_from (first + 1) lines) next names joints → IsJointOf cut first (line ∷ lines) names joint
 here cut first line lines old next names joint joints j r =
     let u_there : slice_get next joint.u ≡ Some j.u =
     (λ i. slice_get (j.names i) (j.u_is i)) ∙ stays (with_name old j.u) j.v (number_of old j.u) j.u (placed old j.u) in
@@ -102,7 +102,7 @@ here cut first line lines old next names joint joints j r =
       v_is = all_stay cut (enumerate_from (first + 1) lines) next names joints joint.v j.v r v_there;
     }
 
-each_joint : (cut : Option ℕ) (first : ℕ) (lines old names : List (List ℕ)) (joints : List Joint) → Reads cut (enumerate_from first lines) old names joints → Each (IsJointOf cut first lines names) joints
+each_joint : (cut : Option ℕ) (first : ℕ) (lines old names : List (List ℕ)) (joints : List Joint) → ReadsNetwork cut (enumerate_from first lines) old names joints → Each (IsJointOf cut first lines names) joints
 each_joint cut first [] old names joints r = subst (Each (IsJointOf cut first [] names)) (sym r.1) tt
 each_joint cut first (line ∷ lines) old names joints r = ⊎_elim
     (λ h. each_map (IsJointOf cut (first + 1) lines names) (IsJointOf cut first (line ∷ lines) names) joints (later cut first line lines names) (each_joint cut (first + 1) lines r.0 names joints h.1))
@@ -141,16 +141,16 @@ module _ (cut : Option ℕ) (bytes : List ℕ) (net : Net) where
       (λ k d l. each_at (λ m. IsLineOf cut bytes net m) (map (scaled_to net.places) is.joints) k d l all)
 
 -- ---- the names of a text, and the lines that have two
-skipped_none : (line : List ℕ) → is_kept (fields_of line) ≡ false → names_in line ≡ []
+skipped_none : (line : List ℕ) → is_kept_in_network (fields_of line) ≡ false → names_in line ≡ []
 skipped_none line skipped = ap (λ b. if b then take 2 (fields_of line) else []) skipped
 
-kept_some : (line : List ℕ) → IsText line → names_in line ≡ take 2 (fields_of line)
+kept_some : (line : List ℕ) → IsKeptText line → names_in line ≡ take 2 (fields_of line)
 kept_some line is = ap (λ b. if b then take 2 (fields_of line) else []) is.kept
 
-two_names : (cut : Option ℕ) (old : List (List ℕ)) (number : ℕ) (line : List ℕ) (next : List (List ℕ)) (joint : Joint) (j : Joins cut old number line next joint) → names_in line ≡ j.u ∷ j.v ∷ []
+two_names : (cut : Option ℕ) (old : List (List ℕ)) (number : ℕ) (line : List ℕ) (next : List (List ℕ)) (joint : Joint) (j : AddsJoint cut old number line next joint) → names_in line ≡ j.u ∷ j.v ∷ []
 two_names cut old number line next joint j = kept_some line j.text ∙ ⊎_elim (λ h. ap (take 2) h.0) (λ h. ap (take 2) h.1) j.weighs
 
-names_after : (lines : List (List ℕ)) (cut : Option ℕ) (first : ℕ) (old names : List (List ℕ)) (joints : List Joint) → Reads cut (enumerate_from first lines) old names joints → names ≡ with_names old (flat_map names_in lines)
+names_after : (lines : List (List ℕ)) (cut : Option ℕ) (first : ℕ) (old names : List (List ℕ)) (joints : List Joint) → ReadsNetwork cut (enumerate_from first lines) old names joints → names ≡ with_names old (flat_map names_in lines)
 names_after [] cut first old names joints r = sym r.0
 names_after (line ∷ lines) cut first old names joints r = ⊎_elim
     (λ h. names_after lines cut (first + 1) r.0 names joints h.1 ∙ ⊎_elim
@@ -166,7 +166,7 @@ names_after (line ∷ lines) cut first old names joints r = ⊎_elim
     ∙ ap (λ (ns : List (List ℕ)). with_names old (ns ++ flat_map names_in lines)) (sym two))
     r.1
 
-numbers_after : (lines : List (ℕ × List ℕ)) (cut : Option ℕ) (old names : List (List ℕ)) (joints : List Joint) → Reads cut lines old names joints → map (λ (j : Joint). j.line) joints ≡ map (λ (l : ℕ × List ℕ). l.0) (filter has_two lines)
+numbers_after : (lines : List (ℕ × List ℕ)) (cut : Option ℕ) (old names : List (List ℕ)) (joints : List Joint) → ReadsNetwork cut lines old names joints → map (λ (j : Joint). j.line) joints ≡ map (λ (l : ℕ × List ℕ). l.0) (filter has_two lines)
 numbers_after [] cut old names joints r = ap (map (λ (j : Joint). j.line)) r.1
 numbers_after (line ∷ lines) cut old names joints r = ⊎_elim
     (λ h.

@@ -12,7 +12,7 @@ use Rattle.std.proofs.lemmas.List.Quantifiers.{position-Some}
 use Rattle.std.proofs.lemmas.List.Sums.{position_or_len_is}
 use Rattle.std.proofs.lemmas.Option.{slice_get_within, get_or_from_slice_get}
 use Rattle.clu_network.specs.NameList.{with_name, with_names}
-use Rattle.clu_network.specs.Naming.{names_of, IsNamed}
+use Rattle.clu_network.specs.Naming.{net_names, IsNameOf}
 use Rattle.clu_network.specs.Network.{Net}
 
 by_test : (b : Bool) (old : List (List ℕ)) (name : List ℕ) → list_any (bytes_eq name) old ≡ b → IsDistinct bytes_eq old
@@ -25,8 +25,8 @@ all_apart : (old names : List (List ℕ)) → IsDistinct bytes_eq old → IsDist
 all_apart old [] apart = apart
 all_apart old (name ∷ names) apart = all_apart (with_name old name) names (by_test (list_any (bytes_eq name) old) old name refl apart)
 
-each_apart : (net : Net) → IsDistinct bytes_eq (names_of net)
-unfolding IsDistinct names_of
+each_apart : (net : Net) → IsDistinct bytes_eq (net_names net)
+unfolding IsDistinct net_names
 each_apart net = all_apart [] net.names tt
 
 -- a list that has no name twice is read as it stands
@@ -50,16 +50,16 @@ all_there old (name ∷ names) apart =
     ap (λ (ns : List (List ℕ)). with_names ns names) first ∙ all_there (old ++ name ∷ []) names (subst (IsDistinct bytes_eq) (sym again) apart) ∙ again
 
 -- a network's names are its list of them
-pub names_are : (net : Net) → IsDistinct bytes_eq net.names → names_of net ≡ net.names
-unfolding names_of
+pub names_are : (net : Net) → IsDistinct bytes_eq net.names → net_names net ≡ net.names
+unfolding net_names
 names_are net apart = all_there [] net.names apart
 
 -- ---- the laws
-pub one_name : (net : Net) (name : List ℕ) (u v : ℕ) → IsNamed net name u → IsNamed net name v → u ≡ v
+pub one_name : (net : Net) (name : List ℕ) (u v : ℕ) → IsNameOf net name u → IsNameOf net name v → u ≡ v
 one_name net name u v is_u is_v = let e : Some u ≡ Some v = sym is_u ∙ is_v in cc
 
-pub named_within : (net : Net) (name : List ℕ) (v : ℕ) → IsNamed net name v → v < length (names_of net)
-named_within net name v is = (position-Some (bytes_eq name) (names_of net) v [] is).0
+pub named_within : (net : Net) (name : List ℕ) (v : ℕ) → IsNameOf net name v → v < length (net_names net)
+named_within net name v is = (position-Some (bytes_eq name) (net_names net) v [] is).0
 
 first_place : (names : List (List ℕ)) (v : ℕ) (name : List ℕ) → IsDistinct bytes_eq names → slice_get names v ≡ Some name → position_or_len (bytes_eq name) names ≡ v
 first_place names v name apart is =
@@ -69,9 +69,9 @@ first_place names v name apart is =
     (λ k before. nat_list_eq_equiv.symm name (get_or names k []) ∙ ap (bytes_eq (get_or names k [])) (sym there) ∙ apart_from_distinct bytes_eq names k v [] apart before within)
     (λ _. ap (bytes_eq name) there ∙ nat_list_eq_equiv.refl name)
 
-pub own_name : (net : Net) (v : ℕ) (name : List ℕ) → length (names_of net) ≤ 1000 → slice_get (names_of net) v ≡ Some name → IsNamed net name v
+pub own_name : (net : Net) (v : ℕ) (name : List ℕ) → length (net_names net) ≤ 1000 → slice_get (net_names net) v ≡ Some name → IsNameOf net name v
 own_name net v name small is =
-    let at = first_place (names_of net) v name (each_apart net) is in
-    let within : v < length (names_of net) = slice_get_within (names_of net) v name is in
-    let test : nat_lt v (length (names_of net)) ≡ true = grind (arith, nat_tests) in
-    ap (λ (k : ℕ). cond (nat_lt k (length (names_of net))) (Some k) None) at ∙ ap (λ b. cond b (Some v) None) test
+    let at = first_place (net_names net) v name (each_apart net) is in
+    let within : v < length (net_names net) = slice_get_within (net_names net) v name is in
+    let test : nat_lt v (length (net_names net)) ≡ true = grind (arith, nat_tests) in
+    ap (λ (k : ℕ). cond (nat_lt k (length (net_names net))) (Some k) None) at ∙ ap (λ b. cond b (Some v) None) test

@@ -5,12 +5,12 @@ use Rattle.clu_text.specs.Lines.{fields_of, lines_of}
 use Rattle.clu_text.specs.declared.decimal.Decimal.{Decimal}
 use Rattle.clu_network.specs.Entries.{Weighs}
 use Rattle.clu_network.specs.Network.{Net}
-use Rattle.clu_network.specs.Reading.{is_kept, IsText}
+use Rattle.clu_network.specs.Reading.{is_kept_in_network, IsKeptText}
 use Rattle.clu_network.specs.declared.network.NetLine.{NetLine}
 
 -- the names in a line: none where it is skipped, else its first two fields, or its only one
 abbrev pub names_in : List ℕ → List (List ℕ)
-names_in line = if is_kept (fields_of line) then take 2 (fields_of line) else []
+names_in line = if is_kept_in_network (fields_of line) then take 2 (fields_of line) else []
 
 -- the names in a text, as they come
 abbrev pub all_names_in : List ℕ → List (List ℕ)
@@ -31,7 +31,7 @@ pub record IsLineOf (cut : Option ℕ) (bytes : List ℕ) (net : Net) (line : Ne
   pub text : List ℕ
   pub number : line.line ≡ place + 1
   pub there : slice_get (lines_of bytes) place ≡ Some text
-  pub kept : IsText text
+  pub kept : IsKeptText text
   pub u : List ℕ
   pub v : List ℕ
   pub weight : Decimal

@@ -3,7 +3,7 @@
 
 ghost use Rattle.std.specs.Prelude.{◌≡◌, ◌≢◌, ◌≤◌, [], IfSome, MatchResult};
 ghost use Rattle.clu_text.specs.Lines.{fields_of};
-ghost use Rattle.clu_network.specs.Entries.{IsEntry, IsFault};
+ghost use Rattle.clu_network.specs.Entries.{IsEntry, IsEntryFault};
 
 use clu_text::{Decimal, fields, read_decimal};
 
@@ -26,7 +26,7 @@ pub(crate) fn read_entry<'a>(line: &'a [u8], cut: Option<u8>) -> Result<Entry<'a
     requires cut { IfSome cut (λ k. k ≤ 9) }
     requires some { fields_of line.now ≢ [] }
     ensures { MatchResult result (λ e. IsEntry cut (fields_of line.now) e)
-        (λ f. IsFault cut (fields_of line.now) f) }
+        (λ f. IsEntryFault cut (fields_of line.now) f) }
 {
     let mut rest = fields(line);
     let Some(u) = rest.next() else {

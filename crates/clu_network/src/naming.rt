@@ -6,12 +6,12 @@ use clu_partition::{Name, Names, Vertex};
 
 /// The vertices are named by their fields, byte for byte.
 impl Names for Network {
-    ghost use Rattle.clu_network.specs.Naming.{names_of, IsNamed};
+    ghost use Rattle.clu_network.specs.Naming.{net_names, IsNameOf};
     ghost use Rattle.clu_network.specs.NamingLaws.{one_name, named_within, own_name};
 
-    ghost names = { names_of };
+    ghost names = { net_names };
 
-    ghost is_named = { IsNamed };
+    ghost is_named = { IsNameOf };
 
     ghost one = { one_name };
 

@@ -4,7 +4,7 @@
 ghost use Rattle.std.specs.List.{IsDistinct};
 ghost use Rattle.std.specs.Str.{bytes_eq};
 ghost use Rattle.std.specs.Prelude.{◌≡◌, ◌≤◌, ◌<◌, ◌^◌, All, length, unsigned_abs};
-ghost use Rattle.clu_network.specs.Naming.{names_of};
+ghost use Rattle.clu_network.specs.Naming.{net_names};
 
 use crate::names::NameTable;
 use clu_partition::Vertex;
@@ -69,14 +69,14 @@ impl Network {
         ensures names { result ≡ length self.now.names }
         ensures apart { IsDistinct bytes_eq self.now.names }
         ensures small { result ≤ 1000 }
-        ensures named { names_of self.now ≡ self.now.names }
+        ensures named { net_names self.now ≡ self.now.names }
     {
         self.n
     }
 
     /// The table of the names.
     pub(crate) fn table(&self) -> &NameTable
-        ensures names { result.now ≡ names_of self.now }
+        ensures names { result.now ≡ net_names self.now }
     {
         &self.names
     }

@@ -6,7 +6,7 @@ ghost use Rattle.std.specs.Prelude.{◌≡◌, ◌↔◌, [], ◌<◌, ◌≤◌
 ghost use Rattle.std.specs.Str.{IsUtf8};
 ghost use Rattle.std.specs.List.{enumerate_from};
 ghost use Rattle.clu_text.specs.Lines.{fields_of, lines_of};
-ghost use Rattle.clu_network.specs.Reading.{is_kept as kept, Fails, Reads, Refuses, Steps};
+ghost use Rattle.clu_network.specs.Reading.{is_kept_in_network as kept, FailsNetwork, ReadsNetwork, RefusesName, AnswersLine};
 ghost use Rattle.clu_network.specs.Scaling.{most_places as most_of, scaled_to, IsNetwork};
 ghost use Rattle.clu_network.specs.Telling.{all_names_in, numbers_in, IsLineOf};
 ghost use Rattle.clu_network.specs.Network.{Net};
@@ -42,7 +42,7 @@ pub fn read_network(alloc: Global, bytes: &[u8], places: Option<u8>) -> Result<N
     ensures told { IfOk result (λ net. All (λ line. IsLineOf places bytes.now net line) net.lines) }
     ensures one { IfOk result (λ net. (other : Net) → IsNetwork places bytes.now other
         → (other.names ≡ net.names) × (other.places ≡ net.places) × (other.lines ≡ net.lines)) }
-    ensures refused { IfErr result (λ e. Fails places (enumerate_from 1 (lines_of bytes.now)) [] e) }
+    ensures refused { IfErr result (λ e. FailsNetwork places (enumerate_from 1 (lines_of bytes.now)) [] e) }
     ensures only { IfErr result (λ e. (net : Net) → IsNetwork places bytes.now net
         → length net.names ≤ 1000 → e ≡ Memory) }
 {
@@ -86,7 +86,7 @@ fn read_name(
     ensures names { OnOk result (names.new ≡ with_name names.old field.now) }
     ensures number { IfOk result (λ v. v ≡ number_of names.old field.now) }
     ensures few { OnOk result (length names.new ≤ 1000) }
-    ensures refused { IfErr result (λ e. Refuses line (1000 < length (with_name names.old field.now)) e) }
+    ensures refused { IfErr result (λ e. RefusesName line (1000 < length (with_name names.old field.now)) e) }
 {
     if let Some(number) = names.find(field) {
         return Ok(Vertex(number));
@@ -130,7 +130,7 @@ fn read_line(
     cut: Option<u8>,
 ) -> Result<Option<Joint>, NetError>
     requires { IfSome cut (λ k. k ≤ 9) }
-    ensures { Steps cut names.old number bytes.now names.new result }
+    ensures { AnswersLine cut names.old number bytes.now names.new result }
 {
     if !is_kept(bytes) {
         return Ok(None);
@@ -176,8 +176,8 @@ struct Lines {
 /// Reads all lines of a text.
 fn read_lines(alloc: Global, bytes: &[u8], cut: Option<u8>) -> Result<Lines, NetError>
     requires { IfSome cut (λ k. k ≤ 9) }
-    ensures ok { IfOk result (λ r. Reads cut (enumerate_from 1 (lines_of bytes.now)) [] r.names r.joints) }
-    ensures err { IfErr result (λ e. Fails cut (enumerate_from 1 (lines_of bytes.now)) [] e) }
+    ensures ok { IfOk result (λ r. ReadsNetwork cut (enumerate_from 1 (lines_of bytes.now)) [] r.names r.joints) }
+    ensures err { IfErr result (λ e. FailsNetwork cut (enumerate_from 1 (lines_of bytes.now)) [] e) }
 {
     let mut names = NameTable::new(alloc);
     let mut joints = Seq::new(alloc);

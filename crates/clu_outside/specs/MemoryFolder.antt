@@ -23,8 +23,8 @@ abbrev pub store_faults_of : MemoryFolder → ℕ
 store_faults_of folder = folder.store_faults
 
 -- the numbers of the calls that are to fail
-abbrev pub failing_of : MemoryFolder → List ℕ
-failing_of folder = folder.failing.items
+abbrev pub failing_calls_of : MemoryFolder → List ℕ
+failing_calls_of folder = folder.failing.items
 
 -- the calls so far, the names of the loads, the faults and the calls that are to fail are the same
 pub record SameCalls (old new : MemoryFolder) : Type 0 where
@@ -32,7 +32,7 @@ pub record SameCalls (old new : MemoryFolder) : Type 0 where
   pub loads : (told_by new).loads ≡ (told_by old).loads
   pub load_faults : load_faults_of new ≡ load_faults_of old
   pub store_faults : store_faults_of new ≡ store_faults_of old
-  pub failing : failing_of new ≡ failing_of old
+  pub failing : failing_calls_of new ≡ failing_calls_of old
 
 -- each name holds what it held
 abbrev pub SameFiles : MemoryFolder → MemoryFolder → Type 0

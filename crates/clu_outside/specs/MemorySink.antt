@@ -15,5 +15,5 @@ abbrev pub faults_of : MemorySink → ℕ
 faults_of sink = sink.faults
 
 -- the numbers of the writes that are to fail
-abbrev pub failing_of : MemorySink → List ℕ
-failing_of sink = sink.failing.items
+abbrev pub failing_writes_of : MemorySink → List ℕ
+failing_writes_of sink = sink.failing.items

@@ -5,7 +5,7 @@ ghost use Rattle.std.specs.Prelude.{◌≡◌, ◌↔◌, ◌⊎◌, [], ◌∷�
 ghost use Rattle.clu_outside.specs.Counts.{next_count};
 ghost use Rattle.clu_outside.specs.Folder.{LoadTells, LoadCause, CreateTells, AppendTells, SameElsewhere, bytes_under};
 ghost use Rattle.clu_outside.specs.Sink.{WriteCause};
-ghost use Rattle.clu_outside.specs.MemoryFolder.{told_by, load_faults_of, store_faults_of, failing_of, SameCalls, SameFiles};
+ghost use Rattle.clu_outside.specs.MemoryFolder.{told_by, load_faults_of, store_faults_of, failing_calls_of, SameCalls, SameFiles};
 
 use crate::{Folder, LoadErr, WriteErr};
 use std::alloc::{AllocError, Global};
@@ -31,7 +31,7 @@ impl MemoryFolder {
         ensures loads { (told_by result).loads ≡ [] }
         ensures load_faults { load_faults_of result ≡ 0 }
         ensures store_faults { store_faults_of result ≡ 0 }
-        ensures failing { failing_of result ≡ failing.items }
+        ensures failing { failing_calls_of result ≡ failing.items }
     {
         MemoryFolder {
             alloc,
@@ -107,7 +107,7 @@ impl MemoryFolder {
     /// Counts a call, and says whether it is listed.
     fn next_is_listed(&mut self) -> bool
         ensures listed { IsTrue result
-            ↔ Contains (failing_of self.old) (next_count (told_by self.old).calls) }
+            ↔ Contains (failing_calls_of self.old) (next_count (told_by self.old).calls) }
         ensures counted { self.new ≡ record self.old { calls = next_count self.old.calls } }
     {
         self.calls = self.calls.saturating_add(1);
@@ -126,8 +126,8 @@ impl MemoryFolder {
         ensures loads { load_faults_of self.new ≡ load_faults_of self.old }
         ensures names { (told_by self.new).loads ≡ (told_by self.old).loads }
         ensures listed { IsErr result
-            ↔ Contains (failing_of self.old) (next_count (told_by self.old).calls) }
-        ensures failing { failing_of self.new ≡ failing_of self.old }
+            ↔ Contains (failing_calls_of self.old) (next_count (told_by self.old).calls) }
+        ensures failing { failing_calls_of self.new ≡ failing_calls_of self.old }
     {
         if self.next_is_listed() {
             self.store_faults = self.store_faults.saturating_add(1);
@@ -163,11 +163,11 @@ impl Folder for MemoryFolder {
         ensures counted { IsErrOf result LoadErr.Failed
             → load_faults_of self.new ≡ next_count (load_faults_of self.old) }
         ensures listed { IsErrOf result LoadErr.Failed
-            → Contains (failing_of self.old) (next_count (told_by self.old).calls) }
-        ensures fails { Contains (failing_of self.old) (next_count (told_by self.old).calls)
+            → Contains (failing_calls_of self.old) (next_count (told_by self.old).calls) }
+        ensures fails { Contains (failing_calls_of self.old) (next_count (told_by self.old).calls)
             → IsErrOf result LoadErr.Failed
             ⊎ (IsErrOf result LoadErr.Memory × (told_by self.new ≡ told_by self.old)) }
-        ensures failing { failing_of self.new ≡ failing_of self.old }
+        ensures failing { failing_calls_of self.new ≡ failing_calls_of self.old }
     {
         self.note(name)?;
         if self.next_is_listed() {
@@ -193,9 +193,9 @@ impl Folder for MemoryFolder {
         ensures counted { IsErrOf result WriteErr.Failed
             → store_faults_of self.new ≡ next_count (store_faults_of self.old) }
         ensures listed { IsErrOf result WriteErr.Failed
-            ↔ Contains (failing_of self.old) (next_count (told_by self.old).calls) }
+            ↔ Contains (failing_calls_of self.old) (next_count (told_by self.old).calls) }
         ensures refused { OnErr result (SameFiles self.old self.new) }
-        ensures failing { failing_of self.new ≡ failing_of self.old }
+        ensures failing { failing_calls_of self.new ≡ failing_calls_of self.old }
     {
         self.begin_store()?;
         self.put_at(name, Vec::new(self.alloc))?;
@@ -210,9 +210,9 @@ impl Folder for MemoryFolder {
         ensures counted { IsErrOf result WriteErr.Failed
             → store_faults_of self.new ≡ next_count (store_faults_of self.old) }
         ensures listed { IsErrOf result WriteErr.Failed
-            ↔ Contains (failing_of self.old) (next_count (told_by self.old).calls) }
+            ↔ Contains (failing_calls_of self.old) (next_count (told_by self.old).calls) }
         ensures refused { OnErr result (SameFiles self.old self.new) }
-        ensures failing { failing_of self.new ≡ failing_of self.old }
+        ensures failing { failing_calls_of self.new ≡ failing_calls_of self.old }
     {
         self.begin_store()?;
         self.add_at(name, bytes)?;

@@ -4,7 +4,7 @@
 ghost use Rattle.std.specs.Prelude.{◌≡◌, ◌↔◌, [], Some, IsErrOf, IfOk, length, Contains};
 ghost use Rattle.clu_outside.specs.Counts.{next_count};
 ghost use Rattle.clu_outside.specs.Sink.{TakesPrefix, WriteCause};
-ghost use Rattle.clu_outside.specs.MemorySink.{bytes_of, calls_of, faults_of, failing_of};
+ghost use Rattle.clu_outside.specs.MemorySink.{bytes_of, calls_of, faults_of, failing_writes_of};
 
 use crate::{Sink, WriteErr};
 use std::alloc::Global;
@@ -24,7 +24,7 @@ impl MemorySink {
         ensures bytes { bytes_of result ≡ [] }
         ensures calls { calls_of result ≡ 0 }
         ensures faults { faults_of result ≡ 0 }
-        ensures failing { failing_of result ≡ failing.items }
+        ensures failing { failing_writes_of result ≡ failing.items }
     {
         MemorySink {
             bytes: Vec::new(alloc),
@@ -54,10 +54,10 @@ impl Sink for MemorySink {
         ensures counted { IsErrOf result WriteErr.Failed
             → faults_of self.new ≡ next_count (faults_of self.old) }
         ensures listed { IsErrOf result WriteErr.Failed
-            ↔ Contains (failing_of self.old) (next_count (calls_of self.old)) }
+            ↔ Contains (failing_writes_of self.old) (next_count (calls_of self.old)) }
         ensures all { IfOk result (λ count. count ≡ length bytes.now) }
         ensures calls { calls_of self.new ≡ next_count (calls_of self.old) }
-        ensures failing { failing_of self.new ≡ failing_of self.old }
+        ensures failing { failing_writes_of self.new ≡ failing_writes_of self.old }
     {
         self.calls = self.calls.saturating_add(1);
         let call = self.calls;

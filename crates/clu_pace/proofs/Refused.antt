@@ -5,8 +5,8 @@ use Rattle.std.proofs.lemmas.Bool.Decides.{nat_tests}
 use Rattle.std.proofs.lemmas.List.{append-nil}
 use Rattle.std.proofs.lemmas.List.Folds.{list_any-append}
 use Rattle.clu_pace.specs.Graph.{PaceGraph, is_edge, NoneTwice}
-use Rattle.clu_pace.specs.Pace.{fields_in, AreNumbers, IsVertex, IsHeader, IsEdgeLine, AreEdges, AreAllEdges, IsAccepted}
-use Rattle.clu_pace.specs.Refusals.{numbered_kept, BeginsHeader, FailsHeader, FailsLine, FailsCount, IsNewEdge, FailsEdges, FailsLines, IsRefused}
+use Rattle.clu_pace.specs.Pace.{unnumbered, AreNumbers, IsVertex, IsHeader, IsEdgeLine, AreEdges, AreAllEdges, IsAccepted}
+use Rattle.clu_pace.specs.Refusals.{numbered_kept, BeginsHeader, FailsHeader, FailsLine, FailsCount, IsNewEdge, FailsEdges, FailsLines, IsPaceFault}
 use Rattle.clu_pace.specs.declared.error.PaceError.{PaceError}
 use Rattle.clu_pace.specs.declared.error.PaceError.TheVariants.{NoHeader, BadHeader, BadLine, VertexOut, Loop, Repeated, EdgeCount, TooManyVertices, Memory}
 use Rattle.clu_pace.proofs.Kept.{kept_lines_are}
@@ -51,7 +51,7 @@ count_stands m count (EdgeCount stated found) is fails = fails.2 (sym is)
 count_stands m count _ is fails = fails
 
 edges_stand : (n m : ℕ) (done : List (ℕ × ℕ)) (lines : List (ℕ × List (List ℕ))) (tail : List (ℕ × ℕ)) (error : PaceError)
-    → AreEdges n (fields_in lines) tail → NoneTwice (done ++ tail) → length (done ++ tail) ≡ m → FailsEdges n m done lines error → ⊥
+    → AreEdges n (unnumbered lines) tail → NoneTwice (done ++ tail) → length (done ++ tail) ≡ m → FailsEdges n m done lines error → ⊥
 edges_stand n m done [] [] error are once counted fails = count_stands m (length done) error (ap length (sym (append-nil done)) ∙ counted) fails
 edges_stand n m done [] (edge ∷ tail) error are once counted fails = are
 edges_stand n m done (line ∷ lines) [] error are once counted fails = are
@@ -63,19 +63,19 @@ edges_stand n m done (line ∷ lines) (edge ∷ tail) error are once counted (in
     edges_stand n m (done ++ fails.0 ∷ []) lines tail error are.1 (subst NoneTwice (sym more) once) (ap length more ∙ counted) fails.2
 
 lines_stand : (lines : List (ℕ × List (List ℕ))) (header : List (List ℕ)) (rest : List (List (List ℕ))) (n m : ℕ) (edges : List (ℕ × ℕ)) (error : PaceError)
-    → fields_in lines ≡ header ∷ rest → IsHeader header n m → n ≤ 1000 → AreAllEdges n m rest edges → FailsLines lines error → ⊥
+    → unnumbered lines ≡ header ∷ rest → IsHeader header n m → n ≤ 1000 → AreAllEdges n m rest edges → FailsLines lines error → ⊥
 lines_stand [] header rest n m edges error is opens small are fails = let none : [] ≡ header ∷ rest = is in cc
 lines_stand (line ∷ lines) header rest n m edges error is opens small are (inl fails) =
     let first : header ≡ line.1 = cc (is) in
     header_stands line n m error (subst (λ (h : List (List ℕ)). IsHeader h n m) first opens) small fails
 lines_stand (line ∷ lines) header rest n m edges error is opens small are (inr fails) =
     let first : header ≡ line.1 = cc (is) in
-    let others : rest ≡ fields_in lines = cc (is) in
+    let others : rest ≡ unnumbered lines = cc (is) in
     let same = same_header line.1 n m fails.0 fails.1 (subst (λ (h : List (List ℕ)). IsHeader h n m) first opens) fails.2 in
-    let each : AreEdges n (fields_in lines) edges = subst (λ (ls : List (List (List ℕ))). AreEdges n ls edges) others are.each in
-    edges_stand fails.0 fails.1 [] lines edges error (subst (λ (k : ℕ). AreEdges k (fields_in lines) edges) same.0 each) are.once (are.counted ∙ same.1) fails.4
+    let each : AreEdges n (unnumbered lines) edges = subst (λ (ls : List (List (List ℕ))). AreEdges n ls edges) others are.each in
+    edges_stand fails.0 fails.1 [] lines edges error (subst (λ (k : ℕ). AreEdges k (unnumbered lines) edges) same.0 each) are.once (are.counted ∙ same.1) fails.4
 
-pub no_graph : (bytes : List ℕ) (error : PaceError) → IsRefused bytes error → (graph : PaceGraph) → IsAccepted bytes graph → ⊥
+pub no_graph : (bytes : List ℕ) (error : PaceError) → IsPaceFault bytes error → (graph : PaceGraph) → IsAccepted bytes graph → ⊥
 no_graph bytes error fails graph is =
     lines_stand (numbered_kept bytes) is.text.header is.text.lines graph.n is.text.m graph.edges error (kept_lines_are bytes ∙ is.text.kept) is.text.header_is is.small is.text.edges_are fails
 
@@ -158,16 +158,16 @@ one_of_lines (line ∷ lines) error other (inr x) (inr y) =
     let first : FailsEdges x.0 y.1 [] lines other = subst (λ (k : ℕ). FailsEdges k y.1 [] lines other) same.0 y.4 in
     one_end x.0 x.1 [] lines error other x.4 (subst (λ (k : ℕ). FailsEdges x.0 k [] lines other) same.1 first)
 
-pub one_refusal : (bytes : List ℕ) (error other : PaceError) → IsRefused bytes error → IsRefused bytes other → other ≡ error
+pub one_refusal : (bytes : List ℕ) (error other : PaceError) → IsPaceFault bytes error → IsPaceFault bytes other → other ≡ error
 one_refusal bytes error other x y = one_of_lines (numbered_kept bytes) error other x y
 
 -- ---- the same of a reader's results
-pub refusals_exclude : {A : Type 0} (bytes : List ℕ) (result : Result A PaceError) → IfErr result (λ e. e ≢ Memory → IsRefused bytes e)
+pub refusals_exclude : {A : Type 0} (bytes : List ℕ) (result : Result A PaceError) → IfErr result (λ e. e ≢ Memory → IsPaceFault bytes e)
     → IfErr result (λ e. e ≢ Memory → (graph : PaceGraph) → IsAccepted bytes graph → ⊥)
 refusals_exclude bytes (Ok value) fails = fails
 refusals_exclude bytes (Err error) fails = λ some. no_graph bytes error (fails some)
 
-pub refusals_alone : {A : Type 0} (bytes : List ℕ) (result : Result A PaceError) → IfErr result (λ e. e ≢ Memory → IsRefused bytes e)
-    → IfErr result (λ e. e ≢ Memory → (other : PaceError) → IsRefused bytes other → other ≡ e)
+pub refusals_alone : {A : Type 0} (bytes : List ℕ) (result : Result A PaceError) → IfErr result (λ e. e ≢ Memory → IsPaceFault bytes e)
+    → IfErr result (λ e. e ≢ Memory → (other : PaceError) → IsPaceFault bytes other → other ≡ e)
 refusals_alone bytes (Ok value) fails = fails
 refusals_alone bytes (Err error) fails = λ some other. one_refusal bytes error other (fails some)

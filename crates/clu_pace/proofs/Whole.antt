@@ -1,22 +1,22 @@
 -- What the ends of the reader say of the whole text.
 use Rattle.std.proofs.Common.{◌≡◌, ℕ, ◌≤◌, List, ◌∷◌, sym, ◌∙◌, ap, subst, arith}
 use Rattle.clu_pace.specs.Graph.{PaceGraph}
-use Rattle.clu_pace.specs.Pace.{IsAccepted, IsHeader, AreAllEdges, AreEdges, fields_in}
+use Rattle.clu_pace.specs.Pace.{IsAccepted, IsHeader, AreAllEdges, AreEdges, unnumbered}
 use Rattle.clu_pace.specs.Refusals.{numbered_kept}
 use Rattle.clu_pace.proofs.Kept.{kept_lines_are}
 use Rattle.clu_pace.proofs.Lines.{same_header, same_edges}
 
 -- a header of at most 1,000 vertices, and behind it the edges of a graph
 pub whole : (bytes : List ℕ) (header : ℕ × List (List ℕ)) (lines : List (ℕ × List (List ℕ))) (n m : ℕ) (graph : PaceGraph) → numbered_kept bytes ≡ header ∷ lines
-    → IsHeader header.1 n m → n ≤ 1000 → graph.n ≡ n → AreAllEdges n m (fields_in lines) graph.edges → IsAccepted bytes graph
+    → IsHeader header.1 n m → n ≤ 1000 → graph.n ≡ n → AreAllEdges n m (unnumbered lines) graph.edges → IsAccepted bytes graph
 whole bytes header lines n m graph kept opens small same are = record {
   text = record {
     header = header.1;
-    lines = fields_in lines;
+    lines = unnumbered lines;
     m = m;
-    kept = sym (kept_lines_are bytes) ∙ ap fields_in kept;
+    kept = sym (kept_lines_are bytes) ∙ ap unnumbered kept;
     header_is = subst (λ (k : ℕ). IsHeader header.1 k m) (sym same) opens;
-    edges_are = subst (λ (k : ℕ). AreAllEdges k m (fields_in lines) graph.edges) (sym same) are;
+    edges_are = subst (λ (k : ℕ). AreAllEdges k m (unnumbered lines) graph.edges) (sym same) are;
   };
   small = omega (arith, same, small);
 }

@@ -11,16 +11,16 @@ use Rattle.std.proofs.lemmas.List.FromFn.{length-range_with_len, get_or-range_wi
 use Rattle.std.proofs.lemmas.Option.{slice_get-map, slice_get-get_or, slice_get_within}
 use Rattle.clu_partition.specs.Partition.{below}
 use Rattle.clu_pace.specs.Graph.{PaceGraph}
-use Rattle.clu_pace.specs.Numbers.{graph_names, IsNamed}
+use Rattle.clu_pace.specs.Numbers.{graph_names, IsNumeralOf}
 
 pub one_name : (graph : PaceGraph) (name : List ℕ) (u v : ℕ)
-    → IsNamed graph name u → IsNamed graph name v → u ≡ v
+    → IsNumeralOf graph name u → IsNumeralOf graph name v → u ≡ v
 one_name graph name u v is_u is_v = let e : u + 1 ≡ v + 1 = sym is_u.1.value_is ∙ is_v.1.value_is in omega arith
 
 pub names_count : (graph : PaceGraph) → length (graph_names graph) ≡ graph.n
 names_count graph = length-map (below graph.n) (λ v. decimal (v + 1)) ∙ length-range_with_len 0 graph.n
 
-pub named_within : (graph : PaceGraph) (name : List ℕ) (v : ℕ) → IsNamed graph name v → v < length (graph_names graph)
+pub named_within : (graph : PaceGraph) (name : List ℕ) (v : ℕ) → IsNumeralOf graph name v → v < length (graph_names graph)
 named_within graph name v is = omega (arith, is.0, names_count graph)
 
 pub name_at : (graph : PaceGraph) (v : ℕ) → v < graph.n → slice_get (graph_names graph) v ≡ Some (decimal (v + 1))
@@ -30,7 +30,7 @@ name_at graph v at =
     ∙ ap (λ (k : ℕ). Some (decimal (k + 1))) (get_or-range_with_len 0 graph.n v 0 at ∙ omega arith)
 
 pub own_name : (graph : PaceGraph) (v : ℕ) (name : List ℕ) → length (graph_names graph) ≤ 1000
-    → slice_get (graph_names graph) v ≡ Some name → IsNamed graph name v
+    → slice_get (graph_names graph) v ≡ Some name → IsNumeralOf graph name v
 own_name graph v name small is =
     let at : v < graph.n = omega (arith, slice_get_within (graph_names graph) v name is, names_count graph) in
     let text : decimal (v + 1) ≡ name = cc (name_at graph v at, is) in

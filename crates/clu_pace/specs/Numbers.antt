@@ -10,5 +10,5 @@ abbrev pub graph_names : PaceGraph → List (List ℕ)
 graph_names graph = map (λ v. decimal (v + 1)) (below graph.n)
 
 -- the bytes are the vertex's number from 1, leading zeros allowed
-abbrev pub IsNamed : PaceGraph → List ℕ → ℕ → Type 0
-IsNamed graph name v = (v < graph.n) × IsNumber name (v + 1)
+abbrev pub IsNumeralOf : PaceGraph → List ℕ → ℕ → Type 0
+IsNumeralOf graph name v = (v < graph.n) × IsNumber name (v + 1)

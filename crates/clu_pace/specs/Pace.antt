@@ -6,25 +6,25 @@ use Rattle.clu_text.specs.Numbers.{IsU32}
 use Rattle.clu_pace.specs.Graph.{PaceGraph, NoneTwice}
 
 -- what a comment begins with: 'c'
-abbrev pub comment_mark : ℕ
-comment_mark = 99
+abbrev pub comment_letter : ℕ
+comment_letter = 99
 
 -- a line is kept if it has a field and its first field begins no comment
-abbrev pub is_kept : List (List ℕ) → Bool
-is_kept [] = false
-is_kept (first ∷ fields) = not (slice_index first 0 == comment_mark)
+abbrev pub is_kept_in_graph : List (List ℕ) → Bool
+is_kept_in_graph [] = false
+is_kept_in_graph (first ∷ fields) = not (slice_index first 0 == comment_letter)
 
 -- the fields of each kept line
 abbrev pub kept_lines : List ℕ → List (List (List ℕ))
-kept_lines bytes = filter is_kept (map fields_of (lines_of bytes))
+kept_lines bytes = filter is_kept_in_graph (map fields_of (lines_of bytes))
 
 -- the kept ones of numbered lines, each with its number and its fields
 abbrev pub kept_of : List (ℕ × List ℕ) → List (ℕ × List (List ℕ))
-kept_of lines = filter (λ line. is_kept line.1) (map (λ line. (line.0, fields_of line.1)) lines)
+kept_of lines = filter (λ line. is_kept_in_graph line.1) (map (λ line. (line.0, fields_of line.1)) lines)
 
 -- the fields of lines that have numbers
-abbrev pub fields_in : List (ℕ × List (List ℕ)) → List (List (List ℕ))
-fields_in lines = map (λ line. line.1) lines
+abbrev pub unnumbered : List (ℕ × List (List ℕ)) → List (List (List ℕ))
+unnumbered lines = map (λ line. line.1) lines
 
 -- the header `p cep n m`
 pub record IsHeader (line : List (List ℕ)) (n m : ℕ) : Type 0 where

@@ -55,5 +55,5 @@ FailsLines (header ∷ lines) error =
     FailsHeader header error ⊎ ((n m : ℕ) × IsHeader header.1 n m × (n ≤ 1000) × FailsEdges n m [] lines error)
 
 -- why the bytes are refused
-abbrev pub IsRefused : List ℕ → PaceError → Type 0
-IsRefused bytes error = FailsLines (numbered_kept bytes) error
+abbrev pub IsPaceFault : List ℕ → PaceError → Type 0
+IsPaceFault bytes error = FailsLines (numbered_kept bytes) error

@@ -31,12 +31,12 @@ fn digits_of(number: u32) -> ([u8; 10], u8)
 
 /// The vertices are named by the decimal numbers from 1; `find` accepts leading zeros.
 impl Names for Graph {
-    ghost use Rattle.clu_pace.specs.Numbers.{graph_names, IsNamed};
+    ghost use Rattle.clu_pace.specs.Numbers.{graph_names, IsNumeralOf};
     ghost use Rattle.clu_pace.specs.NumberLaws.{one_name, named_within, own_name};
 
     ghost names = { graph_names };
 
-    ghost is_named = { IsNamed };
+    ghost is_named = { IsNumeralOf };
 
     ghost one = { one_name };
 

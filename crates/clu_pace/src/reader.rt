@@ -5,8 +5,8 @@
 ghost use Rattle.std.specs.Prelude.{◌≡◌, ◌≢◌, ◌<◌, ◌≤◌, ◌∷◌, ◌↔◌, [], ℕ, List, IfOk, IfErr, IsTrue, MatchOption};
 ghost use Rattle.clu_text.specs.Lines.{fields_of};
 ghost use Rattle.clu_pace.specs.Graph.{PaceGraph};
-ghost use Rattle.clu_pace.specs.Pace.{is_kept as kept, kept_of, fields_in, AreAllEdges, AreNumbers, IsVertex, IsHeader, IsEdgeLine, IsAccepted};
-ghost use Rattle.clu_pace.specs.Refusals.{BeginsHeader, FailsHeader, FailsLine, FailsEdges, IsNewEdge, IsRefused};
+ghost use Rattle.clu_pace.specs.Pace.{is_kept_in_graph as kept, kept_of, unnumbered, AreAllEdges, AreNumbers, IsVertex, IsHeader, IsEdgeLine, IsAccepted};
+ghost use Rattle.clu_pace.specs.Refusals.{BeginsHeader, FailsHeader, FailsLine, FailsEdges, IsNewEdge, IsPaceFault};
 ghost use Rattle.clu_pace.specs.declared.error.PaceError.{PaceError};
 ghost use Rattle.clu_pace.specs.declared.error.PaceError.TheVariants.{Memory};
 
@@ -28,11 +28,11 @@ pub fn read_pace(alloc: Global, bytes: &[u8]) -> Result<Graph, PaceError>
     ensures graph { IfOk result (λ graph. IsAccepted bytes.now graph) }
     ensures only { IfOk result (λ graph. (other : PaceGraph) → IsAccepted bytes.now other
         → other ≡ graph) }
-    ensures refused { IfErr result (λ e. e ≢ Memory → IsRefused bytes.now e) }
+    ensures refused { IfErr result (λ e. e ≢ Memory → IsPaceFault bytes.now e) }
     ensures none { IfErr result (λ e. e ≢ Memory → (graph : PaceGraph)
         → IsAccepted bytes.now graph → ⊥) }
     ensures one { IfErr result (λ e. e ≢ Memory → (other : PaceError)
-        → IsRefused bytes.now other → other ≡ e) }
+        → IsPaceFault bytes.now other → other ≡ e) }
 {
     let mut rest = lines(bytes);
     let Some(header) = next_kept(&mut rest) else {
@@ -181,7 +181,7 @@ fn new_edge(graph: &Graph, number: u64, line: &[u8]) -> Result<(Vertex, Vertex),
 fn read_edges(alloc: Global, n: u32, m: u32, lines: &mut LineIter<'_>) -> Result<Graph, PaceError>
     requires { n ≤ 1000 }
     ensures n { IfOk result (λ graph. graph.n ≡ n) }
-    ensures edges { IfOk result (λ graph. AreAllEdges n m (fields_in (kept_of lines.old)) graph.edges) }
+    ensures edges { IfOk result (λ graph. AreAllEdges n m (unnumbered (kept_of lines.old)) graph.edges) }
     ensures refused { IfErr result (λ e. e ≢ Memory → FailsEdges n m [] (kept_of lines.old) e) }
 {
     let mut graph = Graph::without_edges(alloc, n)?;

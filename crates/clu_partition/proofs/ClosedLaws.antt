@@ -1,12 +1,12 @@
 -- Laws of closed rules.
 use Rattle.std.proofs.Common.{slice_index, ◌≡◌, ℕ, ◌<◌, List, [], length, get_or, sym, ap, ◌∙◌, arith}
 use Rattle.std.proofs.lemmas.List.{same_lists, get_or_default}
-use Rattle.clu_partition.specs.Closed.{Closed, IsClosed, IsOpen, IsPermitted}
+use Rattle.clu_partition.specs.Closed.{Closed, IsClosed, BindsNothing, IsPermitted}
 use Rattle.clu_partition.specs.Partition.{below}
 use Rattle.clu_partition.proofs.Ranges.{below_at, below_size}
 
 -- each vertex alone, and no forbidden pair
-pub open_rules : (n : ℕ) (group : List ℕ) (forbidden : List (ℕ × ℕ)) → group ≡ below n → forbidden ≡ [] → IsOpen n (record { group = group; forbidden = forbidden })
+pub open_rules : (n : ℕ) (group : List ℕ) (forbidden : List (ℕ × ℕ)) → group ≡ below n → forbidden ≡ [] → BindsNothing n (record { group = group; forbidden = forbidden })
 open_rules n group forbidden is none = record {
   size = ap length is ∙ below_size n;
   alone = λ v at. ap (λ (vs : List ℕ). get_or vs v 0) is ∙ below_at n v 0 at;
@@ -16,7 +16,7 @@ open_rules n group forbidden is none = record {
 no_place : (pairs : List (ℕ × ℕ)) (k : ℕ) → pairs ≡ [] → k < length pairs → ⊥
 no_place pairs k none at = let size = ap length none in omega (arith, size, at)
 
-pub open_closed : (n : ℕ) (c : Closed) → IsOpen n c → IsClosed c
+pub open_closed : (n : ℕ) (c : Closed) → BindsNothing n c → IsClosed c
 open_closed n c none =
     let alone : (v : ℕ) → v < length c.group → get_or c.group v 0 ≡ v = λ v at. none.alone v (omega (arith, none.size)) in
     record {
@@ -39,7 +39,7 @@ own_permitted c closed = record {
 }
 
 -- there is one value of rules that require and forbid nothing
-pub one_open : (n : ℕ) (c d : Closed) → IsOpen n c → IsOpen n d → c ≡ d
+pub one_open : (n : ℕ) (c d : Closed) → BindsNothing n c → BindsNothing n d → c ≡ d
 one_open n c d first second = together c.group d.group c.forbidden d.forbidden
     (same_lists c.group d.group (first.size ∙ sym second.size) at)
     (first.none_forbidden ∙ sym second.none_forbidden)

@@ -4,13 +4,13 @@ use Rattle.std.proofs.Math.Seq.{get_or-append_seam}
 use Rattle.std.proofs.lemmas.Bool.{cases_lt, cases_order}
 use Rattle.std.proofs.lemmas.List.{get_or_append_left}
 use Rattle.clu_partition.specs.Partition.{EachOnce, IsNumberedFrom, IsPartition, SameBlocks, block_count_of, blocks_of}
-use Rattle.clu_partition.specs.Placing.{IsApart, Places}
+use Rattle.clu_partition.specs.Placing.{NoLabelTwice, IsPlaced}
 use Rattle.clu_partition.proofs.Once.{each_once}
 
 pub record Numbering (labels : List ℕ) (i : ℕ) (firsts numbered : List ℕ) : Type 0 where
   pub count : length numbered ≡ i
   pub placed : (k : ℕ) → k < i → (get_or numbered k 0 < length firsts) × (get_or firsts (get_or numbered k 0) 0 ≡ get_or labels k 0)
-  pub apart : IsApart firsts
+  pub apart : NoLabelTwice firsts
   pub numbered_is : IsNumberedFrom 0 numbered
   pub next : block_count_of numbered ≡ length firsts
   pub fewer : length firsts ≤ i
@@ -33,7 +33,7 @@ count_push : (xs : List ℕ) (x : ℕ) → block_count_of (xs ++ x ∷ []) ≡ m
 count_push [] x = omega arith
 count_push (y ∷ ys) x = omega (arith, count_push ys x)
 
-module _ (labels firsts new numbered : List ℕ) (i place : ℕ) (old : Numbering labels i firsts numbered) (step : Places firsts new (get_or labels i 0) place) where
+module _ (labels firsts new numbered : List ℕ) (i place : ℕ) (old : Numbering labels i firsts numbered) (step : IsPlaced firsts new (get_or labels i 0) place) where
   pushed : List ℕ
   pushed = numbered ++ place ∷ []
 

@@ -4,7 +4,7 @@ use Rattle.std.proofs.lemmas.Int.{ints}
 use Rattle.std.proofs.lemmas.Bool.{eq-eqb, ne_eqb, eqb-true}
 use Rattle.clu_partition.specs.Sums.{total, pair_total, cross_total, only_if}
 use Rattle.clu_partition.specs.Values.{value_on}
-use Rattle.clu_partition.specs.Groups.{leaders, block, between}
+use Rattle.clu_partition.specs.Groups.{leaders, group_members, between}
 use Rattle.clu_partition.proofs.SumLaws.{Each, Among, Rising, total_cong, total_cong_on, total_swap, total_zero, square_is, pick_one, only_same, shared_sym}
 use Rattle.clu_partition.proofs.ListLaws.{each_map, each_and}
 
@@ -96,15 +96,15 @@ leaders_among group members g = each_map
 pub between_is : (w : ℕ → ℕ → ℤ) (group : ℕ → ℕ) (members : List ℕ) (a b : ℕ) →
     between w group members a b ≡ total (λ u. only_if (group u == a) (total (λ v. only_if (group v == b) (w u v)) members)) members
 between_is w group members a b =
-    filter_total (λ u. total (w u) (block group members b)) (λ u. group u == a) members ∙
-    total_cong (λ u. only_if (group u == a) (total (w u) (block group members b))) (λ u. only_if (group u == a) (total (λ v. only_if (group v == b) (w u v)) members)) members
+    filter_total (λ u. total (w u) (group_members group members b)) (λ u. group u == a) members ∙
+    total_cong (λ u. only_if (group u == a) (total (w u) (group_members group members b))) (λ u. only_if (group u == a) (total (λ v. only_if (group v == b) (w u v)) members)) members
     (λ u. ap (λ z. only_if (group u == a) z) (filter_total (w u) (λ v. group v == b) members))
 
 pub between_sym : (w : ℕ → ℕ → ℤ) → ((u v : ℕ) → w u v ≡ w v u) → (group : ℕ → ℕ) (members : List ℕ) (a b : ℕ) → between w group members a b ≡ between w group members b a
 between_sym w s group members a b =
-    total_swap w (block group members a) (block group members b) ∙
-    total_cong (λ v. total (λ u. w u v) (block group members a)) (λ v. total (w v) (block group members a)) (block group members b)
-    (λ v. total_cong (λ u. w u v) (w v) (block group members a) (λ u. s u v))
+    total_swap w (group_members group members a) (group_members group members b) ∙
+    total_cong (λ v. total (λ u. w u v) (group_members group members a)) (λ v. total (w v) (group_members group members a)) (group_members group members b)
+    (λ v. total_cong (λ u. w u v) (w v) (group_members group members a) (λ u. s u v))
 
 -- the pairs of groups that share a block, both ways round
 pub shared : (ℕ → ℕ → ℤ) → (ℕ → ℕ) → (ℕ → ℕ) → List ℕ → ℕ → ℕ → ℤ

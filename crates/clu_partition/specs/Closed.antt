@@ -33,7 +33,7 @@ pub record IsClosed (c : Closed) : Type 0 where
   pub rising : AreRising c.forbidden
 
 -- rules that require and forbid nothing: each of n vertices is a group of its own
-pub record IsOpen (n : ℕ) (c : Closed) : Type 0 where
+pub record BindsNothing (n : ℕ) (c : Closed) : Type 0 where
   pub size : length c.group ≡ n
   pub alone : (v : ℕ) → v < n → slice_index c.group v ≡ v
   pub none_forbidden : c.forbidden ≡ []

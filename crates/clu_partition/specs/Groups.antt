@@ -7,8 +7,8 @@ abbrev pub leaders : (ℕ → ℕ) → List ℕ → List ℕ
 leaders group members = filter (λ u. group u == u) members
 
 -- the members of the group whose least vertex is a
-abbrev pub block : (ℕ → ℕ) → List ℕ → ℕ → List ℕ
-block group members a = filter (λ u. group u == a) members
+abbrev pub group_members : (ℕ → ℕ) → List ℕ → ℕ → List ℕ
+group_members group members a = filter (λ u. group u == a) members
 
 -- the group of u and that of v become one
 abbrev pub merged : (ℕ → ℕ) → ℕ → ℕ → ℕ → ℕ
@@ -21,7 +21,7 @@ NamesOnce group (v ∷ vs) = All (λ w. group v ≢ group w) vs × NamesOnce gro
 
 -- the weight of two groups, named by their least vertices
 abbrev pub between : (ℕ → ℕ → ℤ) → (ℕ → ℕ) → List ℕ → ℕ → ℕ → ℤ
-between weight group members a b = cross_total weight (block group members a) (block group members b)
+between weight group members a b = cross_total weight (group_members group members a) (group_members group members b)
 
 -- the sum of f over the free pairs of groups
 abbrev pub free_total : (ℕ → ℕ → Bool) → (ℕ → ℕ → ℤ) → List ℕ → ℤ

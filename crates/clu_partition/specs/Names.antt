@@ -10,9 +10,9 @@ name_bytes (Number digits len) = take len digits
 name_bytes (Text text) = text.now
 
 -- a number has at most the ten places of its array
-abbrev pub IsWithin : Name → Type 0
-IsWithin (Number digits len) = len ≤ 10
-IsWithin (Text text) = Unit {0}
+abbrev pub FitsArray : Name → Type 0
+FitsArray (Number digits len) = len ≤ 10
+FitsArray (Text text) = Unit {0}
 
 -- a number has decimal digits alone
 abbrev pub HasDigits : Name → Type 0

@@ -1,7 +1,7 @@
 //! Names of vertices, and the trait by which rules and reports ask for them: a graph's are numbers, a network's are texts.
 //! Bytes name one vertex at most, and each vertex is named by the bytes of its name, by laws of the trait.
 ghost use Rattle.std.specs.Prelude.{◌≡◌, ◌≤◌, ◌<◌, ℕ, List, length, slice_get, Some, MatchOption};
-ghost use Rattle.clu_partition.specs.Names.{name_bytes, IsWithin, HasDigits};
+ghost use Rattle.clu_partition.specs.Names.{name_bytes, FitsArray, HasDigits};
 
 use crate::Vertex;
 
@@ -17,7 +17,7 @@ pub enum Name<'a> {
 impl<'a> Name<'a> {
     /// The bytes of the name.
     pub fn as_bytes(&self) -> &[u8]
-        requires { IsWithin self.now }
+        requires { FitsArray self.now }
         ensures { result.now ≡ name_bytes self.now }
     {
         match self {
@@ -49,7 +49,7 @@ pub trait Names {
     fn name(&self, v: Vertex) -> Name<'_>
         requires { v < length (names self.now) }
         ensures bytes { slice_get (names self.now) v ≡ Some (name_bytes result) }
-        ensures within { IsWithin result }
+        ensures within { FitsArray result }
         ensures digits { HasDigits result };
 
     /// The same bytes name one vertex at most.

@@ -5,7 +5,7 @@ ghost use Rattle.clu_partition.specs.Pairs.{total_of, weight_of};
 ghost use Rattle.clu_partition.specs.Sums.{only_if};
 ghost use Rattle.clu_partition.specs.Values.{value_on, value_by_place};
 ghost use Rattle.clu_partition.specs.Partition.{below, EachOnce, IsPartition, SameBlocks, block_count_of, blocks_of};
-ghost use Rattle.clu_partition.specs.Placing.{IsApart, Places};
+ghost use Rattle.clu_partition.specs.Placing.{NoLabelTwice, IsPlaced};
 
 use crate::sums::pair_sum;
 use crate::{PairTable, Seq, Vertex};
@@ -165,8 +165,8 @@ fn place_of(firsts: &[u32], label: u32) -> usize
 
 /// The place of a label, which is put behind the others where it isn't there.
 fn place_in(firsts: &mut Vec<u32>, label: u32) -> Result<usize, AllocError>
-    requires { IsApart firsts.old.items }
-    ensures { IfOk result (λ place. Places firsts.old.items firsts.new.items label place) }
+    requires { NoLabelTwice firsts.old.items }
+    ensures { IfOk result (λ place. IsPlaced firsts.old.items firsts.new.items label place) }
 {
     let place = place_of(firsts, label);
     if place == firsts.len() {

@@ -29,13 +29,13 @@ impl Model for Start {
 }
 
 impl Start {
-    ghost use Rattle.clu_partition.specs.Closed.{IsClosed, IsOpen};
+    ghost use Rattle.clu_partition.specs.Closed.{IsClosed, BindsNothing};
     ghost use Rattle.clu_partition.specs.Ties.{AreBelow, Closes};
 
     /// The rules that require and forbid nothing, for n vertices, at most 1,000.
     pub fn none(alloc: Global, n: u32) -> Result<Start, AllocError>
         requires { n ≤ 1000 }
-        ensures { IfOk result (λ s. IsOpen n s) }
+        ensures { IfOk result (λ s. BindsNothing n s) }
     {
         let group = alone(alloc, n)?;
         Ok(Start {

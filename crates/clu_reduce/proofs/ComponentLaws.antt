@@ -7,7 +7,7 @@ use Rattle.clu_partition.specs.Groups.{between}
 use Rattle.clu_partition.proofs.PairLaws.{one_less}
 use Rattle.clu_state.specs.State.{State, IsState, IsFree, merged, leader, are_apart, group_weight}
 use Rattle.clu_state.proofs.GroupLaws.{Groups, state_groups, merged_high, merged_other, merged_groups, min_either}
-use Rattle.clu_reduce.specs.Components.{Linked, grouped, near, back, chain, AreLinked, AreStable, IsNear, IsLeast, AreLabels}
+use Rattle.clu_reduce.specs.Components.{Linked, grouped, near, back, chain, AreLinked, AreStable, Attract, IsLeast, AreLabels}
 use Rattle.clu_reduce.proofs.FreeLaws.{free_turn, weight_turn, free_least}
 
 -- ---- parts that settle
@@ -105,12 +105,12 @@ labels_same s label other e a = record {
   whole = λ u v cu cv l. e u cu ∙ a.whole u v cu cv l ∙ sym (e v cv);
 }
 
-near_turn : (s : State) (u v : ℕ) → IsNear s u v → IsNear s v u
+near_turn : (s : State) (u v : ℕ) → Attract s u v → Attract s v u
 near_turn s u v n = record { free = free_turn s u v n.free; above = subst (λ z. pos 0 <ℤ z) (weight_turn s u v) n.above }
 
 -- what holds of the groups' least vertices holds of all members
 pub stable_from : (s : State) → IsState s → (label : ℕ → ℕ) → AreLabels s label
-    → ((a b : ℕ) → Contains s.members a → Contains s.members b → leader s a ≡ a → leader s b ≡ b → a < b → IsNear s a b → label a ≡ label b)
+    → ((a b : ℕ) → Contains s.members a → Contains s.members b → leader s a ≡ a → leader s b ≡ b → a < b → Attract s a b → label a ≡ label b)
     → AreStable s label
 stable_from s i label a h = record {
   groups = a.whole;
@@ -124,7 +124,7 @@ stable_from s i label a h = record {
       let weight : group_weight s (leader s u) (leader s v) ≡ group_weight s u v =
       ap (λ x. between (weight_of s.pairs) (leader s) s.members x (leader s (leader s v))) eu
       ∙ ap (λ x. between (weight_of s.pairs) (leader s) s.members (leader s u) x) ev in
-      let is : IsNear s (leader s u) (leader s v) = record { free = free; above = subst (λ z. pos 0 <ℤ z) (sym weight) l } in
+      let is : Attract s (leader s u) (leader s v) = record { free = free; above = subst (λ z. pos 0 <ℤ z) (sym weight) l } in
       sym (a.whole (leader s u) u cu f.first eu)
       ∙ ⊎_elim
       (λ k. h (leader s u) (leader s v) cu cv eu ev k is)

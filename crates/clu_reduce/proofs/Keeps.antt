@@ -8,16 +8,16 @@ use Rattle.clu_partition.specs.Values.{value_on}
 use Rattle.clu_partition.proofs.SumLaws.{Among}
 use Rattle.clu_partition.proofs.Regroup.{leaders_rising, filter_total, among_filter}
 use Rattle.clu_partition.proofs.JoinLaws.{joins_same, joins_turn}
-use Rattle.clu_state.specs.State.{State, IsState, InClass, Obeys, IsFree, CanDecide, decided, leader, are_apart, kept_apart, group_leaders, group_weight}
+use Rattle.clu_state.specs.State.{State, IsState, InClass, ObeysDecision, IsFree, CanDecide, decided, leader, are_apart, kept_apart, group_leaders, group_weight}
 use Rattle.clu_state.specs.declared.decision.Decision.{Decision}
 use Rattle.clu_state.specs.declared.decision.Decision.TheVariants.{Together, Apart}
 use Rattle.clu_state.proofs.GroupLaws.{state_groups}
 use Rattle.clu_state.proofs.Bridge.{state_are_groups, leader_among, contains_from}
 use Rattle.clu_state.proofs.Joined.{decided_state}
 use Rattle.clu_state.proofs.Best.{worth, AsGood, KeepsBest, in_after}
-use Rattle.clu_reduce.specs.Conditions.{is_other, others, gain, stake, AreTwins, ArePair, IsHeavy, IsLight}
-use Rattle.clu_reduce.specs.Reduction.{Allows, Holds, decision_by, decision_of, KeepsWorth}
-use Rattle.clu_reduce.specs.Steps.{AllHold, stepped}
+use Rattle.clu_reduce.specs.Conditions.{is_other, others, gain, stake, AreTwins, AreInseparable, IsHeavy, IsLight}
+use Rattle.clu_reduce.specs.Reduction.{Allows, StepHolds, decision_by, decision_of, KeepsWorth}
+use Rattle.clu_reduce.specs.Steps.{StepsHold, stepped}
 use Rattle.clu_reduce.specs.declared.step.Kind.{Kind}
 use Rattle.clu_reduce.specs.declared.step.Kind.TheVariants.{Twin, Pair, Heavy, Light}
 use Rattle.clu_reduce.specs.declared.step.Step.{Step}
@@ -37,7 +37,7 @@ twin_holds w apart groups u v h = record {
   same_weights = λ x m n k. All-contains (λ x. apart u x ≡ false → w u x ≡ w v x) (others groups u v) x h.weights (among_others groups u v x m n k);
 }
 
-pair_holds : (w : ℕ → ℕ → ℤ) (apart : ℕ → ℕ → Bool) (groups : List ℕ) (u v : ℕ) → ArePair w apart groups u v → PairHolds w apart groups u v
+pair_holds : (w : ℕ → ℕ → ℤ) (apart : ℕ → ℕ → Bool) (groups : List ℕ) (u v : ℕ) → AreInseparable w apart groups u v → PairHolds w apart groups u v
 pair_holds w apart groups u v h = record {
   enough = subst (λ z. z ≤ℤ w u v)
       (filter_total (λ x. gain w apart u x +ℤ gain w apart v x) (is_other u v) groups) h.enough;
@@ -69,7 +69,7 @@ module _ (s : State) (i : IsState s) (u v : ℕ) (f : IsFree s u v) where
 
   -- from the groups to the class
   spread_keeps : (d : Decision) (label : ℕ → ℕ) → InClass s label → (better : ℕ → ℕ) → Legal (are_apart s) (group_leaders s) better →
-      Obeys (spread s better) d → value_on (group_weight s) label (group_leaders s) ≤ℤ value_on (group_weight s) better (group_leaders s) →
+      ObeysDecision (spread s better) d → value_on (group_weight s) label (group_leaders s) ≤ℤ value_on (group_weight s) better (group_leaders s) →
       AsGood (decided s d) (worth s label)
   spread_keeps d label c better legal obeys worth =
       let a = class_worth s i label c in
@@ -118,17 +118,17 @@ decides s Pair u v f = f
 decides s Heavy u v f = f
 decides s Light u v f = f
 
-pub held_decides : (s : State) (step : Step) → Holds s step → CanDecide s (decision_of step)
+pub held_decides : (s : State) (step : Step) → StepHolds s step → CanDecide s (decision_of step)
 held_decides s step h = decides s step.kind step.u step.v h.free
 
-pub held_keeps : (s : State) (step : Step) → IsState s → Holds s step → KeepsBest s (decision_of step)
+pub held_keeps : (s : State) (step : Step) → IsState s → StepHolds s step → KeepsBest s (decision_of step)
 held_keeps s step i h = allowed_keeps s i step.u step.v h.free step.kind h.allowed
 
 -- ---- and so do steps one after the other
-pub step_keeps : (s : State) (step : Step) → IsState s → Holds s step → KeepsWorth s (decided s (decision_of step))
+pub step_keeps : (s : State) (step : Step) → IsState s → StepHolds s step → KeepsWorth s (decided s (decision_of step))
 step_keeps s step i h label c = let k = (held_keeps s step i h).after label c in (k.label, k.class', k.better)
 
-pub steps_keep : (s : State) (steps : List Step) → IsState s → AllHold s steps → KeepsWorth s (stepped s steps)
+pub steps_keep : (s : State) (steps : List Step) → IsState s → StepsHold s steps → KeepsWorth s (stepped s steps)
 steps_keep s [] i h label c = (label, c, omega (arith, ints))
 steps_keep s (step ∷ steps) i h label c =
     let a = step_keeps s step i h.0 label c in

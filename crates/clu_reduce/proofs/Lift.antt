@@ -10,7 +10,7 @@ use Rattle.clu_partition.proofs.Regroup.{value_split, leaders_lead}
 use Rattle.clu_partition.proofs.StartLaws.{all_from}
 use Rattle.clu_partition.proofs.TableLaws.{weight_sym}
 use Rattle.clu_partition.proofs.JoinLaws.{front_or_rest, joins_listed, joins_same}
-use Rattle.clu_state.specs.State.{State, IsState, InClass, Obeys, leader, are_apart, kept_apart, apart_decisions, group_leaders, group_weight}
+use Rattle.clu_state.specs.State.{State, IsState, InClass, ObeysDecision, leader, are_apart, kept_apart, apart_decisions, group_leaders, group_weight}
 use Rattle.clu_state.specs.declared.decision.Decision.{Decision}
 use Rattle.clu_state.specs.declared.decision.Decision.TheVariants.{Together, Apart}
 use Rattle.clu_state.proofs.GroupLaws.{state_groups, AllMembers, made_members, lead_weight}
@@ -67,10 +67,10 @@ lifted s i label l = record {
       (i.closed.least v (All-contains (λ x. x < length s.start.group) s.members v i.members.below c))));
   forbidden = all_from (λ p. Contains s.members p.0 → Contains s.members p.1 → spread s label p.0 ≢ spread s label p.1) s.start.forbidden
       (λ p c ca cb. apart_labels s i label l p.0 p.1 ca cb (Contains-append_left s.start.forbidden (apart_decisions s.decisions) p c));
-  decisions = all_from (Obeys (spread s label)) s.decisions obeys;
+  decisions = all_from (ObeysDecision (spread s label)) s.decisions obeys;
 }
   where
-    obeys : (d : Decision) → Contains s.decisions d → Obeys (spread s label) d
+    obeys : (d : Decision) → Contains s.decisions d → ObeysDecision (spread s label) d
     obeys (Together u v) c = ap label (joined_equal s.decisions (slice_index s.start.group) u v c)
     obeys (Apart u v) c =
         let m = members_apart s.members s.decisions u v (made_members (record s { decisions = [] }) s.decisions i.made) c in

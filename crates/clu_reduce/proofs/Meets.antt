@@ -11,7 +11,7 @@ use Rattle.clu_state.specs.State.{State, leader, are_apart, group_weight, group_
 use Rattle.clu_state.proofs.Bridge.{contains_from, among_from, each_here}
 use Rattle.clu_state.proofs.Class.{among_filtered}
 use Rattle.clu_reduce.specs.Conditions.{is_other, others, stake, gain, AreTwins, IsHeavy, IsLight}
-use Rattle.clu_reduce.specs.Tests.{IsThird, AreAlike, Follows}
+use Rattle.clu_reduce.specs.Tests.{IsThird, AreTwinsAt, IsApartToo}
 
 -- ---- one more of a list
 pub all_more : (P : ℕ → Type 0) (xs : List ℕ) (i x : ℕ) → i < length xs → x ≡ get_or xs i x → ((k d : ℕ) → k < i → P (get_or xs k d)) → P x →
@@ -56,23 +56,23 @@ all_thirds s a b P h = all_from (λ x. IsThird s a b x → P x) s.members (λ x 
 
 -- ---- the conditions
 pub twins : (s : State) (a b : ℕ) (found : Bool) → pos 0 ≤ℤ group_weight s a b →
-    (IsTrue found → All (λ x. IsThird s a b x → AreAlike s a b x) s.members) × (All (λ x. IsThird s a b x → AreAlike s a b x) s.members → IsTrue found) →
+    (IsTrue found → All (λ x. IsThird s a b x → AreTwinsAt s a b x) s.members) × (All (λ x. IsThird s a b x → AreTwinsAt s a b x) s.members → IsTrue found) →
     (IsTrue found → AreTwins (group_weight s) (are_apart s) (group_leaders s) a b) × (AreTwins (group_weight s) (are_apart s) (group_leaders s) a b → IsTrue found)
 twins s a b found l h = (
-  λ t. (let k = all_others s a b (AreAlike s a b) (h.0 t) in record {
+  λ t. (let k = all_others s a b (AreTwinsAt s a b) (h.0 t) in record {
     lossless = l;
     partners = λ i d m. (k i d m).partners;
     weights = λ i d m. (k i d m).weights;
   }),
-  λ t. h.1 (all_thirds s a b (AreAlike s a b) (λ i d m. record { partners = t.partners i d m; weights = t.weights i d m })),
+  λ t. h.1 (all_thirds s a b (AreTwinsAt s a b) (λ i d m. record { partners = t.partners i d m; weights = t.weights i d m })),
 )
 
 pub heavy : (s : State) (a b : ℕ) (found : Bool) → total (stake (group_weight s) (are_apart s) a) (others (group_leaders s) a b) ≤ℤ group_weight s a b →
-    (IsTrue found → All (λ x. IsThird s a b x → Follows s a b x) s.members) × (All (λ x. IsThird s a b x → Follows s a b x) s.members → IsTrue found) →
+    (IsTrue found → All (λ x. IsThird s a b x → IsApartToo s a b x) s.members) × (All (λ x. IsThird s a b x → IsApartToo s a b x) s.members → IsTrue found) →
     (IsTrue found → IsHeavy (group_weight s) (are_apart s) (group_leaders s) a b) × (IsHeavy (group_weight s) (are_apart s) (group_leaders s) a b → IsTrue found)
 heavy s a b found l h = (
-  λ t. record { partners = all_others s a b (Follows s a b) (h.0 t); enough = l },
-  λ t. h.1 (all_thirds s a b (Follows s a b) t.partners),
+  λ t. record { partners = all_others s a b (IsApartToo s a b) (h.0 t); enough = l },
+  λ t. h.1 (all_thirds s a b (IsApartToo s a b) t.partners),
 )
 
 pub light : (s : State) (a b : ℕ) (w room : ℤ) (found : Bool) → w ≡ group_weight s a b → w <ℤ pos 0 → room ≡ pos 0 -ℤ w →

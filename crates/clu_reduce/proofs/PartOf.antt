@@ -5,7 +5,7 @@ use Rattle.std.proofs.lemmas.List.Elements.{All-contains, Contains-append_left, 
 use Rattle.std.proofs.lemmas.Bool.{eq-eqb, eqb-true, or_left, or_right, or_cases, false_from_ne_true, false≢true}
 use Rattle.clu_partition.proofs.JoinLaws.{front_or_rest}
 use Rattle.clu_state.specs.State.{State}
-use Rattle.clu_reduce.specs.Parts.{IsPart, AllParts, Cover, Lacks, is_in}
+use Rattle.clu_reduce.specs.Parts.{IsPart, AllParts, Cover, IsOutside, is_in}
 
 -- ---- whether a part has a member
 pub is_in_listed : (part : List ℕ) (v : ℕ) → Contains part v → is_in part v ≡ true
@@ -33,7 +33,7 @@ lacks_earlier : (s : State) (earlier parts : List (List ℕ)) → AllParts s ear
     Contains (get_or parts k []) v → Contains part v → ⊥
 lacks_earlier s earlier [] a part c k l v m n = absurd (omega arith)
 lacks_earlier s earlier (first ∷ parts) a part c zero l v m n =
-    All-contains (Lacks part) first v (All-contains (λ other. All (Lacks other) first) earlier part a.0.new c) m n
+    All-contains (IsOutside part) first v (All-contains (λ other. All (IsOutside other) first) earlier part a.0.new c) m n
 lacks_earlier s earlier (first ∷ parts) a part c (suc k) l v m n =
     lacks_earlier s (earlier ++ first ∷ []) parts a.1 part (Contains-append_left earlier (first ∷ []) part c) k (omega arith) v m n
 

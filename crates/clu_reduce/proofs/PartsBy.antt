@@ -2,7 +2,7 @@
 use Rattle.std.proofs.Common.{◌≡◌, ◌≢◌, inl, inr, ⊎_elim, ℕ, ◌<◌, ◌≤◌, List, [], ◌∷◌, ◌++◌, slice_index, map, true, ◌==◌, All, Contains, refl, sym, ap, ◌∙◌, subst, arith}
 use Rattle.std.proofs.lemmas.Bool.{eq-eqb, eqb-true}
 use Rattle.std.proofs.lemmas.List.Elements.{All-nil, All-cons, All-contains, All-map, Contains-append_cases, Contains-append_right}
-use Rattle.clu_partition.specs.Groups.{leaders, block}
+use Rattle.clu_partition.specs.Groups.{leaders, group_members}
 use Rattle.clu_partition.proofs.StartLaws.{all_from}
 use Rattle.clu_partition.proofs.SumLaws.{Each, Among, Rising}
 use Rattle.clu_partition.proofs.ListLaws.{rising_at}
@@ -12,13 +12,13 @@ use Rattle.clu_state.specs.State.{State, IsState}
 use Rattle.clu_state.proofs.Bridge.{each_from, each_here, among_from, contains_from, rising_from_index}
 use Rattle.clu_state.proofs.Class.{among_filtered}
 use Rattle.clu_reduce.specs.Components.{AreLabels, AreStable}
-use Rattle.clu_reduce.specs.Parts.{Rises, Lacks, IsPart, AllParts, Cover, IsConnected, AreParts}
+use Rattle.clu_reduce.specs.Parts.{Rises, IsOutside, IsPart, AllParts, Cover, IsConnected, AreParts}
 use Rattle.clu_reduce.proofs.PartsLaw.{parts_law}
 use Rattle.clu_reduce.proofs.ComponentLaws.{settled, connected}
 
 -- the parts by the labels
 abbrev pub parts_by : (ℕ → ℕ) → List ℕ → List (List ℕ)
-parts_by label members = map (block label members) (leaders label members)
+parts_by label members = map (group_members label members) (leaders label members)
 
 rises : (xs : List ℕ) → Rising xs → Rises xs
 rises xs up i j l k = rising_at xs i j up l k
@@ -42,15 +42,15 @@ module _ (s : State) (i : IsState s) (label : ℕ → ℕ) (a : AreLabels s labe
   up : Rising s.members
   up = rising_from_index s.members i.members.rising
 
-  in_block : (x v : ℕ) → Contains s.members v → label v ≡ x → Contains (block label s.members x) v
-  in_block x v c e = contains_from (block label s.members x) v (among_filter (λ u. label u == x) v s.members (eq-eqb (label v) x e) (among_from s.members v c))
+  in_block : (x v : ℕ) → Contains s.members v → label v ≡ x → Contains (group_members label s.members x) v
+  in_block x v c e = contains_from (group_members label s.members x) v (among_filter (λ u. label u == x) v s.members (eq-eqb (label v) x e) (among_from s.members v c))
 
-  block_member : (x v : ℕ) → Contains (block label s.members x) v → Contains s.members v
-  block_member x v c = contains_from s.members v (among_filtered (λ u. label u == x) v s.members (among_from (block label s.members x) v c))
+  block_member : (x v : ℕ) → Contains (group_members label s.members x) v → Contains s.members v
+  block_member x v c = contains_from s.members v (among_filtered (λ u. label u == x) v s.members (among_from (group_members label s.members x) v c))
 
-  block_label : (x v : ℕ) → Contains (block label s.members x) v → label v ≡ x
-  block_label x v c = eqb-true (label v) x (each_here (λ u. (label u == x) ≡ true) v (block label s.members x)
-      (each_passes (λ u. label u == x) s.members) (among_from (block label s.members x) v c))
+  block_label : (x v : ℕ) → Contains (group_members label s.members x) v → label v ≡ x
+  block_label x v c = eqb-true (label v) x (each_here (λ u. (label u == x) ≡ true) v (group_members label s.members x)
+      (each_passes (λ u. label u == x) s.members) (among_from (group_members label s.members x) v c))
 
   -- the label leads its part
   record Leads (x : ℕ) : Type 0 where
@@ -58,34 +58,34 @@ module _ (s : State) (i : IsState s) (label : ℕ → ℕ) (a : AreLabels s labe
     own : label x ≡ x
 
   is_part : (earlier : List (List ℕ)) (x : ℕ) → Leads x
-      → ((other : List ℕ) → Contains earlier other → (v : ℕ) → Contains other v → label v ≢ x) → IsPart s earlier (block label s.members x)
+      → ((other : List ℕ) → Contains earlier other → (v : ℕ) → Contains other v → label v ≢ x) → IsPart s earlier (group_members label s.members x)
   is_part earlier x l new = record {
     nonempty = let c = in_block x x l.member l.own in let m = c.1 in omega (arith, m);
-    rising = rises (block label s.members x) (rising_filter (λ u. label u == x) s.members up);
-    members = all_from (Contains s.members) (block label s.members x) (block_member x);
-    new = all_from (λ other. All (Lacks other) (block label s.members x)) earlier (λ other co.
-        all_from (Lacks other) (block label s.members x) (λ v c n. new other co v n (block_label x v c)));
+    rising = rises (group_members label s.members x) (rising_filter (λ u. label u == x) s.members up);
+    members = all_from (Contains s.members) (group_members label s.members x) (block_member x);
+    new = all_from (λ other. All (IsOutside other) (group_members label s.members x)) earlier (λ other co.
+        all_from (IsOutside other) (group_members label s.members x) (λ v c n. new other co v n (block_label x v c)));
     undivided = λ u v cu cv e. in_block x v cv (sym (a.whole u v (block_member x u cu) cv e) ∙ block_label x u cu);
     settled = λ u v cu cv n. settled s label t u v (block_member x u cu) cv (λ e. n (in_block x v cv (sym e ∙ block_label x u cu)));
   }
 
   all_parts : (earlier : List (List ℕ)) (xs : List ℕ) → Rising xs → Each Leads xs
       → ((other : List ℕ) → Contains earlier other → (v : ℕ) → Contains other v → (x : ℕ) → Among x xs → label v ≢ x)
-      → AllParts s earlier (map (block label s.members) xs)
+      → AllParts s earlier (map (group_members label s.members) xs)
   all_parts earlier [] r l new = tt
   all_parts earlier (x ∷ xs) r l new = (
     is_part earlier x l.0 (λ other co v c. new other co v c x (inl refl)),
-    all_parts (earlier ++ block label s.members x ∷ []) xs r.1 l.1 (λ other co v c y m e. ⊎_elim
+    all_parts (earlier ++ group_members label s.members x ∷ []) xs r.1 l.1 (λ other co v c y m e. ⊎_elim
         (λ k. new other k v c y (inr m) e)
         (λ k. let h = each_here (λ z. x < z) y xs r.0 m in
         let f = block_label x v (subst (λ p. Contains p v) (last other k) c) in
         absurd (omega (arith, h, e, f)))
-        (Contains-append_cases earlier (block label s.members x ∷ []) other co)),
+        (Contains-append_cases earlier (group_members label s.members x ∷ []) other co)),
   )
     where
-      last : (other : List ℕ) → Contains (block label s.members x ∷ []) other → other ≡ block label s.members x
-      last other k = sym (All-contains (λ p. block label s.members x ≡ p) (block label s.members x ∷ []) other
-          (All-cons (λ p. block label s.members x ≡ p) (block label s.members x) [] refl (All-nil (λ p. block label s.members x ≡ p))) k)
+      last : (other : List ℕ) → Contains (group_members label s.members x ∷ []) other → other ≡ group_members label s.members x
+      last other k = sym (All-contains (λ p. group_members label s.members x ≡ p) (group_members label s.members x ∷ []) other
+          (All-cons (λ p. group_members label s.members x ≡ p) (group_members label s.members x) [] refl (All-nil (λ p. group_members label s.members x ≡ p))) k)
 
   leads_all : Each Leads (leaders label s.members)
   leads_all = each_from Leads (leaders label s.members) (λ x c.
@@ -106,22 +106,22 @@ module _ (s : State) (i : IsState s) (label : ℕ → ℕ) (a : AreLabels s labe
 
   cover : Cover s (parts_by label s.members)
   cover = all_from (λ v. (part : List ℕ) × Contains (parts_by label s.members) part × Contains part v) s.members (λ v c. (
-    block label s.members (label v),
-    mapped (block label s.members) (leaders label s.members) (label v)
+    group_members label s.members (label v),
+    mapped (group_members label s.members) (leaders label s.members) (label v)
         (among_filter (λ u. label u == u) (label v) s.members (eq-eqb (label (label v)) (label v) (a.least.idem v c)) (among_from s.members (label v) (a.least.into v c))),
     in_block (label v) v c refl,
   ))
 
-  connected_each : (xs : List ℕ) → All (IsConnected s) (map (block label s.members) xs)
-  connected_each xs = All-map (IsConnected s) (block label s.members) xs (all_from (λ x. IsConnected s (block label s.members x)) xs (λ x _ u v cu cv.
+  connected_each : (xs : List ℕ) → All (IsConnected s) (map (group_members label s.members) xs)
+  connected_each xs = All-map (IsConnected s) (group_members label s.members) xs (all_from (λ x. IsConnected s (group_members label s.members x)) xs (λ x _ u v cu cv.
       connected s label a.linked u v (block_member x u cu) (block_member x v cv) (block_label x u cu ∙ sym (block_label x v cv))))
 
   -- the label is the first vertex of its part
-  first_is : (x : ℕ) → Leads x → slice_index (block label s.members x) 0 ≡ x
-  first_is x l = first (block label s.members x) (rising_filter (λ u. label u == x) s.members up) (in_block x x l.member l.own) (λ v c.
+  first_is : (x : ℕ) → Leads x → slice_index (group_members label s.members x) 0 ≡ x
+  first_is x l = first (group_members label s.members x) (rising_filter (λ u. label u == x) s.members up) (in_block x x l.member l.own) (λ v c.
       let h = a.least.low v (block_member x v c) in let e = block_label x v c in omega (arith, h, e))
 
-  firsts : (xs : List ℕ) → Each Leads xs → map (λ part. slice_index part 0) (map (block label s.members) xs) ≡ xs
+  firsts : (xs : List ℕ) → Each Leads xs → map (λ part. slice_index part 0) (map (group_members label s.members) xs) ≡ xs
   firsts [] l = refl
   firsts (x ∷ xs) l = (λ i. first_is x l.0 i ∷ firsts xs l.1 i)
 

@@ -7,7 +7,7 @@ use Rattle.clu_partition.proofs.SumLaws.{Among, Rising, total_cong_on, total_add
 use Rattle.clu_partition.proofs.ListLaws.{each_and}
 use Rattle.clu_partition.proofs.Regroup.{filter_total}
 use Rattle.clu_partition.proofs.TakeOut.{TwoOut, two_out}
-use Rattle.clu_reduce.specs.Conditions.{is_other, others, gain, stake, ArePair, IsHeavy}
+use Rattle.clu_reduce.specs.Conditions.{is_other, others, gain, stake, AreInseparable, IsHeavy}
 use Rattle.clu_reduce.proofs.Exchange.{out_total, other_true, other_first, other_second}
 
 -- the sum of u's row: over all groups but u
@@ -56,7 +56,7 @@ gain_none false (negsuc n) l = refl
 module _ (w : ℕ → ℕ → ℤ) (apart : ℕ → ℕ → Bool) (groups : List ℕ) (up : Rising groups) (u v : ℕ) (mu : Among u groups) (mv : Among v groups)
     (n : u ≢ v) where
   -- a pair's weight is at least half of u's row
-  pub pair_row : ArePair w apart groups u v → row_of (gain w apart u) groups u ≤ℤ (w u v +ℤ w u v)
+  pub pair_row : AreInseparable w apart groups u v → row_of (gain w apart u) groups u ≤ℤ (w u v +ℤ w u v)
   pair_row h =
       let a = others_rest (λ x. gain w apart u x +ℤ gain w apart v x) groups u v (two_out groups u v up mu mv n) in
       let b = row_rest (gain w apart u) groups u v (two_out groups u v up mu mv n) n in

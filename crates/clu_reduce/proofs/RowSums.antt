@@ -9,9 +9,9 @@ use Rattle.clu_partition.proofs.SumLaws.{Among, Rising}
 use Rattle.clu_partition.proofs.Regroup.{rising_filter, among_filter}
 use Rattle.clu_state.specs.State.{State, IsState, leader, are_apart, group_weight, group_leaders}
 use Rattle.clu_state.proofs.Bridge.{among_from, rising_from_index}
-use Rattle.clu_reduce.specs.Conditions.{is_other, ArePair, IsHeavy, IsLight}
+use Rattle.clu_reduce.specs.Conditions.{is_other, AreInseparable, IsHeavy, IsLight}
 use Rattle.clu_reduce.specs.Reduction.{Reduces}
-use Rattle.clu_reduce.specs.Rows.{IsRow, RowAllows}
+use Rattle.clu_reduce.specs.Rows.{IsRowSum, RowAllows}
 use Rattle.clu_reduce.specs.Tests.{cost_of, cost_at}
 use Rattle.clu_reduce.specs.declared.step.Kind.{Kind}
 use Rattle.clu_reduce.specs.declared.step.Kind.TheVariants.{Twin, Pair, Heavy, Light}
@@ -80,11 +80,11 @@ module _ (s : State) (i : IsState s) (u v : ℕ) (cu : Contains s.members u) (cv
   mv : Among v (group_leaders s)
   mv = among_filter (λ x. leader s x == x) v s.members (eq-eqb (leader s v) v ev) (among_from s.members v cv)
 
-  pub allowed : (kind : Kind) (row : ℤ) → IsRow s kind u row → Reduces s (record { kind = kind; u = u; v = v }) → RowAllows kind row (group_weight s u v)
+  pub allowed : (kind : Kind) (row : ℤ) → IsRowSum s kind u row → Reduces s (record { kind = kind; u = u; v = v }) → RowAllows kind row (group_weight s u v)
   allowed Twin row is r = tt
   allowed Pair row is r =
       let a = pair_row (group_weight s) (are_apart s) (group_leaders s) up u v mu mv n
-      (subst (λ x. ArePair (group_weight s) (are_apart s) (group_leaders s) x v) eu (subst (λ y. ArePair (group_weight s) (are_apart s) (group_leaders s) (leader s u) y) ev r.holds.allowed)) in
+      (subst (λ x. AreInseparable (group_weight s) (are_apart s) (group_leaders s) x v) eu (subst (λ y. AreInseparable (group_weight s) (are_apart s) (group_leaders s) (leader s u) y) ev r.holds.allowed)) in
       let b = is eu in
       let c = costs_are s Light u u in
       omega (arith, ints, a, b, c)

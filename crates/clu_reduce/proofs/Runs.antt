@@ -4,8 +4,8 @@ use Rattle.std.proofs.lemmas.Bool.{false≢true}
 use Rattle.clu_state.specs.State.{State, IsState, decided, are_apart, group_weight, group_leaders}
 use Rattle.clu_state.specs.declared.decision.Decision.{Decision}
 use Rattle.clu_reduce.specs.Conditions.{IsUseful}
-use Rattle.clu_reduce.specs.Reduction.{Holds, decision_of}
-use Rattle.clu_reduce.specs.Steps.{AllHold, stepped}
+use Rattle.clu_reduce.specs.Reduction.{StepHolds, decision_of}
+use Rattle.clu_reduce.specs.Steps.{StepsHold, stepped}
 use Rattle.clu_reduce.specs.Tests.{IsTornBy}
 use Rattle.clu_reduce.specs.declared.step.Step.{Step}
 use Rattle.clu_reduce.proofs.Keeps.{held_decides}
@@ -13,7 +13,7 @@ use Rattle.clu_reduce.specs.Sweep.{openings, Swept}
 use Rattle.clu_reduce.proofs.Measure.{openings_fall}
 use Rattle.clu_reduce.proofs.Meets.{third_of, of_third}
 
-pub held_push : (s : State) (steps : List Step) (step : Step) → AllHold s steps → Holds (stepped s steps) step → AllHold s (steps ++ step ∷ [])
+pub held_push : (s : State) (steps : List Step) (step : Step) → StepsHold s steps → StepHolds (stepped s steps) step → StepsHold s (steps ++ step ∷ [])
 held_push s [] step h k = (k, tt)
 held_push s (first ∷ steps) step h k = (h.0, held_push (decided s (decision_of first)) steps step h.1 k)
 
@@ -22,15 +22,15 @@ stepped_push s [] step = refl
 stepped_push s (first ∷ steps) step = stepped_push (decided s (decision_of first)) steps step
 
 -- one step more is taken
-pub taken : (s now next : State) (steps more : List Step) (step : Step) (d : Decision) → AllHold s steps → now ≡ stepped s steps → Holds now step →
-    d ≡ decision_of step → next ≡ decided now d → more ≡ steps ++ step ∷ [] → AllHold s more × (next ≡ stepped s more)
+pub taken : (s now next : State) (steps more : List Step) (step : Step) (d : Decision) → StepsHold s steps → now ≡ stepped s steps → StepHolds now step →
+    d ≡ decision_of step → next ≡ decided now d → more ≡ steps ++ step ∷ [] → StepsHold s more × (next ≡ stepped s more)
 taken s now next steps more step d h e k is n m = (
-  subst (AllHold s) (sym m) (held_push s steps step h (subst (λ t. Holds t step) e k)),
+  subst (StepsHold s) (sym m) (held_push s steps step h (subst (λ t. StepHolds t step) e k)),
   n ∙ ap (decided now) is ∙ ap (λ t. decided t (decision_of step)) e ∙ sym (stepped_push s steps step) ∙ ap (stepped s) (sym m),
 )
 
 -- and leaves fewer open pairs
-pub taken_falls : (now next : State) (step : Step) (d : Decision) → IsState now → Holds now step → d ≡ decision_of step → next ≡ decided now d →
+pub taken_falls : (now next : State) (step : Step) (d : Decision) → IsState now → StepHolds now step → d ≡ decision_of step → next ≡ decided now d →
     openings next < openings now
 taken_falls now next step d i k is n = subst (λ (t : State). openings t < openings now) (sym (n ∙ ap (decided now) is))
     (openings_fall now (decision_of step) i (held_decides now step k))
@@ -50,7 +50,7 @@ useful_none s a b i h l = (
 )
 
 -- ---- sweeps
-pub swept_one : (old now : State) (before after : List Step) (step : Step) (d : Decision) → IsState old → Holds old step → d ≡ decision_of step →
+pub swept_one : (old now : State) (before after : List Step) (step : Step) (d : Decision) → IsState old → StepHolds old step → d ≡ decision_of step →
     now ≡ decided old d → after ≡ before ++ step ∷ [] → Swept old before now after true
 swept_one old now before after step d i k is n m = record {
   leads = λ t l. (let h = taken t old now before after step d l.held l.state k is n m in record { held = h.0; state = h.1 });

@@ -7,9 +7,9 @@ use Rattle.clu_partition.proofs.PairLaws.{one_less}
 use Rattle.clu_partition.proofs.SumLaws.{total_cong}
 use Rattle.clu_state.specs.State.{State, IsState, IsFree, leader, are_apart, group_weight, group_leaders}
 use Rattle.clu_state.proofs.GroupLaws.{state_groups}
-use Rattle.clu_reduce.specs.Conditions.{is_other, others, gain, AreTwins, ArePair}
+use Rattle.clu_reduce.specs.Conditions.{is_other, others, gain, AreTwins, AreInseparable}
 use Rattle.clu_reduce.specs.Reduction.{Allows, Serves, Reduces}
-use Rattle.clu_reduce.specs.Sweep.{IsDue, IsFirst}
+use Rattle.clu_reduce.specs.Sweep.{IsDue, InKindOrder}
 use Rattle.clu_reduce.specs.declared.step.Kind.{Kind}
 use Rattle.clu_reduce.specs.declared.step.Kind.TheVariants.{Twin, Pair, Heavy, Light}
 use Rattle.clu_reduce.proofs.FreeLaws.{free_turn, weight_turn, free_least}
@@ -38,7 +38,7 @@ twins_turn w apart groups u v e t = record {
       (λ k d l f. sym (t.weights k d l (t.partners k d l ∙ f)));
 }
 
-pair_turn : (w : ℕ → ℕ → ℤ) (apart : ℕ → ℕ → Bool) (groups : List ℕ) (u v : ℕ) → w u v ≡ w v u → ArePair w apart groups u v → ArePair w apart groups v u
+pair_turn : (w : ℕ → ℕ → ℤ) (apart : ℕ → ℕ → Bool) (groups : List ℕ) (u v : ℕ) → w u v ≡ w v u → AreInseparable w apart groups u v → AreInseparable w apart groups v u
 pair_turn w apart groups u v e p = record {
   enough =
       let a = total_cong (λ x. gain w apart u x +ℤ gain w apart v x) (λ x. gain w apart v x +ℤ gain w apart u x)
@@ -92,7 +92,7 @@ pub record Due (s : State) (kind : Kind) : Type 0 where
   pub due : IsDue s (record { kind = kind; u = u; v = v })
 
 in_order : (s : State) → IsState s → (kind : Kind) (u v : ℕ) → Reduces s (record { kind = kind; u = u; v = v }) →
-    IsFirst kind (leader s u) (leader s v) → Due s kind
+    InKindOrder kind (leader s u) (leader s v) → Due s kind
 in_order s i kind u v r first =
     let g = state_groups s i in
     record {
@@ -105,7 +105,7 @@ in_order s i kind u v r first =
     }
 
 -- with the smaller vertex first, whatever the order of the step
-either_order : (s : State) → IsState s → (kind : Kind) → ((a b : ℕ) → a < b → IsFirst kind a b) →
+either_order : (s : State) → IsState s → (kind : Kind) → ((a b : ℕ) → a < b → InKindOrder kind a b) →
     ((a b : ℕ) → Reduces s (record { kind = kind; u = a; v = b }) → Reduces s (record { kind = kind; u = b; v = a })) →
     (u v : ℕ) → Reduces s (record { kind = kind; u = u; v = v }) → Due s kind
 either_order s i kind first turn u v r = ⊎_elim

@@ -19,7 +19,7 @@ pub record AreStable (s : State) (label : ℕ → ℕ) : Type 0 where
   pub near : (u v : ℕ) → IsFree s u v → pos 0 <ℤ group_weight s u v → label u ≡ label v
 
 -- the groups of u and v are free, and their weight is above 0
-pub record IsNear (s : State) (u v : ℕ) : Type 0 where
+pub record Attract (s : State) (u v : ℕ) : Type 0 where
   pub free : IsFree s u v
   pub above : pos 0 <ℤ group_weight s u v
 
@@ -36,5 +36,5 @@ pub record AreLabels (s : State) (label : ℕ → ℕ) : Type 0 where
   pub whole : (u v : ℕ) → Contains s.members u → Contains s.members v → leader s u ≡ leader s v → label u ≡ label v
 
 -- members with one label still have one
-abbrev pub AreTied : State → (ℕ → ℕ) → (ℕ → ℕ) → Type 0
-AreTied s old new = (u v : ℕ) → Contains s.members u → Contains s.members v → old u ≡ old v → new u ≡ new v
+abbrev pub StayTogether : State → (ℕ → ℕ) → (ℕ → ℕ) → Type 0
+StayTogether s old new = (u v : ℕ) → Contains s.members u → Contains s.members v → old u ≡ old v → new u ≡ new v

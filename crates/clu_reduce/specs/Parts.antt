@@ -9,8 +9,8 @@ use Rattle.clu_reduce.specs.Components.{Linked}
 abbrev pub Rises : List ℕ → Type 0
 Rises part = (i j : ℕ) → i < j → j < length part → slice_index part i < slice_index part j
 
-abbrev pub Lacks : List ℕ → ℕ → Type 0
-Lacks part v = Contains part v → ⊥
+abbrev pub IsOutside : List ℕ → ℕ → Type 0
+IsOutside part v = Contains part v → ⊥
 
 -- The part is nonempty and rising, has members alone and none of an earlier part, divides no group, and has no free pair of
 -- positive weight to a group outside it.
@@ -18,9 +18,9 @@ pub record IsPart (s : State) (earlier : List (List ℕ)) (part : List ℕ) : Ty
   pub nonempty : 0 < length part
   pub rising : Rises part
   pub members : All (Contains s.members) part
-  pub new : All (λ other. All (Lacks other) part) earlier
+  pub new : All (λ other. All (IsOutside other) part) earlier
   pub undivided : (u v : ℕ) → Contains part u → Contains s.members v → leader s u ≡ leader s v → Contains part v
-  pub settled : (u v : ℕ) → Contains part u → Contains s.members v → Lacks part v
+  pub settled : (u v : ℕ) → Contains part u → Contains s.members v → IsOutside part v
       → (are_apart s u v ≡ true) ⊎ (group_weight s u v ≤ℤ pos 0)
 
 -- each is a part beside those before it
@@ -41,8 +41,8 @@ abbrev pub IsConnected : State → List ℕ → Type 0
 IsConnected s part = (u v : ℕ) → Contains part u → Contains part v → Linked s u v
 
 -- the least vertices of the parts rise
-abbrev pub InOrder : List (List ℕ) → Type 0
-InOrder parts = Rises (map (λ part. slice_index part 0) parts)
+abbrev pub PartsRise : List (List ℕ) → Type 0
+PartsRise parts = Rises (map (λ part. slice_index part 0) parts)
 
 -- no partition of the class is worth more than it is within the parts together
 abbrev pub BoundsParts : State → List (List ℕ) → Type 0
@@ -54,5 +54,5 @@ pub record AreParts (s : State) (parts : List (List ℕ)) : Type 0 where
   pub each : AllParts s [] parts
   pub cover : Cover s parts
   pub connected : All (IsConnected s) parts
-  pub order : InOrder parts
+  pub order : PartsRise parts
   pub bound : BoundsParts s parts

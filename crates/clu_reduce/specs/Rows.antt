@@ -14,8 +14,8 @@ row_kind Heavy = Heavy
 row_kind Light = Light
 
 -- the row of a group named by its least vertex, over all groups but it
-abbrev pub IsRow : State → Kind → ℕ → ℤ → Type 0
-IsRow s kind u row = leader s u ≡ u → row ≡ total (cost_at s (row_kind kind) u u) s.members
+abbrev pub IsRowSum : State → Kind → ℕ → ℤ → Type 0
+IsRowSum s kind u row = leader s u ≡ u → row ≡ total (cost_at s (row_kind kind) u u) s.members
 
 -- what the row asks of a weight
 abbrev pub RowAllows : Kind → ℤ → ℤ → Type 0

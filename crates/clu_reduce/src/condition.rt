@@ -5,9 +5,9 @@
 ghost use Rattle.std.specs.Prelude.{◌≡◌, ◌≢◌, ◌↔◌, ℕ, ◌≤ℤ◌, Contains, All, IsTrue};
 ghost use Rattle.clu_partition.specs.Sums.{total};
 ghost use Rattle.clu_state.specs.State.{State, IsState, IsFree, leader, are_apart, group_weight, group_leaders};
-ghost use Rattle.clu_reduce.specs.Conditions.{gain, stake, others, AreTwins, ArePair, IsHeavy, IsLight};
-ghost use Rattle.clu_reduce.specs.Reduction.{Allows, Holds};
-ghost use Rattle.clu_reduce.specs.Tests.{IsThird, cost_of, cost_at, AreAlike, Follows};
+ghost use Rattle.clu_reduce.specs.Conditions.{gain, stake, others, AreTwins, AreInseparable, IsHeavy, IsLight};
+ghost use Rattle.clu_reduce.specs.Reduction.{Allows, StepHolds};
+ghost use Rattle.clu_reduce.specs.Tests.{IsThird, cost_of, cost_at, AreTwinsAt, IsApartToo};
 
 use crate::{Kind, Step};
 use clu_partition::Vertex;
@@ -15,7 +15,7 @@ use clu_state::Situation;
 
 /// Whether the step holds: its vertices name two free groups, and its kind's condition holds of them.
 pub fn holds<S: Situation>(state: &S, step: &Step) -> bool
-    ensures { IsTrue result ↔ Holds (S.state state.now) step.now }
+    ensures { IsTrue result ↔ StepHolds (S.state state.now) step.now }
 {
     // For the prover: the state is a valid one.
     let _members = state.members();
@@ -62,7 +62,7 @@ fn are_pair<S: Situation>(state: &S, a: Vertex, b: Vertex) -> bool
     requires free { IsFree (S.state state.now) a b }
     requires first_least { leader (S.state state.now) a ≡ a }
     requires second_least { leader (S.state state.now) b ≡ b }
-    ensures { IsTrue result ↔ ArePair (group_weight (S.state state.now))
+    ensures { IsTrue result ↔ AreInseparable (group_weight (S.state state.now))
         (are_apart (S.state state.now)) (group_leaders (S.state state.now)) a b }
 {
     costs_fit(state, Kind::Pair, a, b, state.weight(a, b))
@@ -193,7 +193,7 @@ fn all_alike<S: Situation>(state: &S, a: Vertex, b: Vertex) -> bool
     requires first_least { leader (S.state state.now) a ≡ a }
     requires second_least { leader (S.state state.now) b ≡ b }
     ensures { IsTrue result ↔ All (λ x. IsThird (S.state state.now) a b x
-        → AreAlike (S.state state.now) a b x) (S.state state.now).members }
+        → AreTwinsAt (S.state state.now) a b x) (S.state state.now).members }
 {
     for x in state.members() {
         if !alike_if_third(state, a, b, *x) {
@@ -210,7 +210,7 @@ fn alike_if_third<S: Situation>(state: &S, a: Vertex, b: Vertex, x: Vertex) -> b
     requires first_least { leader (S.state state.now) a ≡ a }
     requires second_least { leader (S.state state.now) b ≡ b }
     requires third { Contains (S.state state.now).members x }
-    ensures { IsTrue result ↔ (IsThird (S.state state.now) a b x → AreAlike (S.state state.now) a b x) }
+    ensures { IsTrue result ↔ (IsThird (S.state state.now) a b x → AreTwinsAt (S.state state.now) a b x) }
 {
     if !is_third(state, a, b, x) {
         return true;
@@ -225,7 +225,7 @@ fn are_alike<S: Situation>(state: &S, a: Vertex, b: Vertex, x: Vertex) -> bool
     requires third { Contains (S.state state.now).members x }
     requires first_differs { leader (S.state state.now) a ≢ leader (S.state state.now) x }
     requires second_differs { leader (S.state state.now) b ≢ leader (S.state state.now) x }
-    ensures { IsTrue result ↔ AreAlike (S.state state.now) a b x }
+    ensures { IsTrue result ↔ AreTwinsAt (S.state state.now) a b x }
 {
     let apart = state.is_apart(a, x);
     if apart != state.is_apart(b, x) {
@@ -241,7 +241,7 @@ fn all_follow<S: Situation>(state: &S, a: Vertex, b: Vertex) -> bool
     requires first_least { leader (S.state state.now) a ≡ a }
     requires second_least { leader (S.state state.now) b ≡ b }
     ensures { IsTrue result ↔ All (λ x. IsThird (S.state state.now) a b x
-        → Follows (S.state state.now) a b x) (S.state state.now).members }
+        → IsApartToo (S.state state.now) a b x) (S.state state.now).members }
 {
     for x in state.members() {
         if !follows_if_third(state, a, b, *x) {
@@ -258,7 +258,7 @@ fn follows_if_third<S: Situation>(state: &S, a: Vertex, b: Vertex, x: Vertex) ->
     requires first_least { leader (S.state state.now) a ≡ a }
     requires second_least { leader (S.state state.now) b ≡ b }
     requires third { Contains (S.state state.now).members x }
-    ensures { IsTrue result ↔ (IsThird (S.state state.now) a b x → Follows (S.state state.now) a b x) }
+    ensures { IsTrue result ↔ (IsThird (S.state state.now) a b x → IsApartToo (S.state state.now) a b x) }
 {
     if !is_third(state, a, b, x) {
         return true;
@@ -273,7 +273,7 @@ fn follows<S: Situation>(state: &S, a: Vertex, b: Vertex, x: Vertex) -> bool
     requires third { Contains (S.state state.now).members x }
     requires first_differs { leader (S.state state.now) a ≢ leader (S.state state.now) x }
     requires second_differs { leader (S.state state.now) b ≢ leader (S.state state.now) x }
-    ensures { IsTrue result ↔ Follows (S.state state.now) a b x }
+    ensures { IsTrue result ↔ IsApartToo (S.state state.now) a b x }
 {
     !state.is_apart(a, x) || state.is_apart(b, x)
 }

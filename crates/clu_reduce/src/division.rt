@@ -2,9 +2,9 @@
 //! partition needs a block across two of them, as splitting it there loses no weight. Labels are
 //! merged pair by pair, each pair of groups once, so no loop runs to a fixed point.
 ghost use Rattle.std.specs.Prelude.{◌≡◌, ◌≢◌, ◌<◌, ◌==◌, ◌↔◌, ℕ, All, Contains, IfOk, OnOk, IsTrue, [], ◌∷◌, ◌++◌, EachIndex, length, slice_index, filter, if◌then◌else◌};
-ghost use Rattle.clu_partition.specs.Groups.{block};
+ghost use Rattle.clu_partition.specs.Groups.{group_members};
 ghost use Rattle.clu_state.specs.State.{State, IsState, IsFree, leader, group_leaders, merged};
-ghost use Rattle.clu_reduce.specs.Components.{IsNear, AreLabels, AreStable, AreTied};
+ghost use Rattle.clu_reduce.specs.Components.{Attract, AreLabels, AreStable, StayTogether};
 ghost use Rattle.clu_reduce.specs.Parts.{AreParts};
 
 use clu_partition::{Seq, Vertex};
@@ -35,7 +35,7 @@ fn push_part(
     requires labels { All (λ u. u < length labels.now) members.now }
     requires member { v < length labels.now }
     ensures { OnOk result (parts.new ≡ (if slice_index labels.now v == v
-        then parts.old ++ block (slice_index labels.now) members.now v ∷ [] else parts.old)) }
+        then parts.old ++ group_members (slice_index labels.now) members.now v ∷ [] else parts.old)) }
 {
     if labels[v.0 as usize] != v {
         return Ok(());
@@ -102,9 +102,9 @@ fn tie_all<S: Situation>(state: &S, labels: &mut Vec<Vertex>, groups: &[Vertex],
     requires at { i < length groups.now }
     ensures size { length labels.new.items ≡ length labels.old.items }
     ensures labels { AreLabels (S.state state.now) (slice_index labels.new.items) }
-    ensures kept { AreTied (S.state state.now) (slice_index labels.old.items) (slice_index labels.new.items) }
+    ensures kept { StayTogether (S.state state.now) (slice_index labels.old.items) (slice_index labels.new.items) }
     ensures tied { (q : ℕ) → i < q → q < length groups.now
-        → IsNear (S.state state.now) (slice_index groups.now i) (slice_index groups.now q)
+        → Attract (S.state state.now) (slice_index groups.now i) (slice_index groups.now q)
         → slice_index labels.new.items (slice_index groups.now i) ≡ slice_index labels.new.items (slice_index groups.now q) }
 {
     for j in i + 1..groups.len() {
@@ -120,8 +120,8 @@ fn tie<S: Situation>(state: &S, labels: &mut Vec<Vertex>, a: Vertex, b: Vertex)
     requires second { Contains (S.state state.now).members b }
     ensures size { length labels.new.items ≡ length labels.old.items }
     ensures labels { AreLabels (S.state state.now) (slice_index labels.new.items) }
-    ensures kept { AreTied (S.state state.now) (slice_index labels.old.items) (slice_index labels.new.items) }
-    ensures tied { IsNear (S.state state.now) a b
+    ensures kept { StayTogether (S.state state.now) (slice_index labels.old.items) (slice_index labels.new.items) }
+    ensures tied { Attract (S.state state.now) a b
         → slice_index labels.new.items a ≡ slice_index labels.new.items b }
 {
     if is_near(state, a, b) {
@@ -131,7 +131,7 @@ fn tie<S: Situation>(state: &S, labels: &mut Vec<Vertex>, a: Vertex, b: Vertex)
 
 /// Whether the two are of free groups with a weight above 0.
 fn is_near<S: Situation>(state: &S, a: Vertex, b: Vertex) -> bool
-    ensures { IsTrue result ↔ IsNear (S.state state.now) a b }
+    ensures { IsTrue result ↔ Attract (S.state state.now) a b }
 {
     if !state.is_free(a, b) {
         return false;

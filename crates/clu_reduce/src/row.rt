@@ -4,7 +4,7 @@
 ghost use Rattle.std.specs.Prelude.{◌≡◌, ◌≢◌, ◌↔◌, ◌≤◌, ◌^◌, ℕ, false, Contains, IsTrue, unsigned_abs};
 ghost use Rattle.clu_state.specs.State.{leader};
 ghost use Rattle.clu_reduce.specs.Reduction.{Reduces};
-ghost use Rattle.clu_reduce.specs.Rows.{row_kind, IsRow, RowAllows};
+ghost use Rattle.clu_reduce.specs.Rows.{row_kind, IsRowSum, RowAllows};
 
 use crate::condition::cost_if_third;
 use crate::{Kind, Step};
@@ -17,7 +17,7 @@ pub(crate) fn may_reduce<S: Situation>(state: &S, step: &Step, row: i128) -> boo
     requires second { Contains (S.state state.now).members step.now.v }
     requires first_least { leader (S.state state.now) step.now.u ≡ step.now.u }
     requires second_least { leader (S.state state.now) step.now.v ≡ step.now.v }
-    requires row { IsRow (S.state state.now) step.now.kind step.now.u row }
+    requires row { IsRowSum (S.state state.now) step.now.kind step.now.u row }
     ensures { Reduces (S.state state.now) step.now → IsTrue result }
 {
     // For the prover: the state is a valid one.
@@ -44,7 +44,7 @@ fn allows(kind: Kind, row: i128, weight: i128) -> bool
 /// The sum of the row of u, if u is the least vertex of its group.
 pub(crate) fn row_sum<S: Situation>(state: &S, kind: Kind, u: Vertex) -> i128
     requires { Contains (S.state state.now).members u }
-    ensures { IsRow (S.state state.now) kind u result }
+    ensures { IsRowSum (S.state state.now) kind u result }
 {
     if state.group_of(u) != u {
         return 0;
@@ -66,8 +66,8 @@ pub(crate) fn row_after<S: Situation>(
     took: bool,
 ) -> i128
     requires member { Contains (S.state state.now).members u }
-    requires row { took ≡ false → IsRow (S.state state.now) kind u row }
-    ensures { IsRow (S.state state.now) kind u result }
+    requires row { took ≡ false → IsRowSum (S.state state.now) kind u row }
+    ensures { IsRowSum (S.state state.now) kind u result }
 {
     if took { row_sum(state, kind, u) } else { row }
 }

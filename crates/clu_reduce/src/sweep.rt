@@ -4,9 +4,9 @@
 ghost use Rattle.std.specs.Prelude.{◌≡◌, ◌<◌, ◌↔◌, IsTrue, ℕ, List, false, Contains, IfOk, IfErr, OnOk};
 ghost use Rattle.clu_state.specs.State.{State};
 ghost use Rattle.clu_reduce.specs.Reduction.{IsIrreducible, KeepsWorth};
-ghost use Rattle.clu_reduce.specs.Steps.{AllHold, stepped};
-ghost use Rattle.clu_reduce.specs.Rows.{IsRow};
-ghost use Rattle.clu_reduce.specs.Sweep.{IsDue, IsFirst, IsInTurn, Lead, Swept};
+ghost use Rattle.clu_reduce.specs.Steps.{StepsHold, stepped};
+ghost use Rattle.clu_reduce.specs.Rows.{IsRowSum};
+ghost use Rattle.clu_reduce.specs.Sweep.{IsDue, InKindOrder, IsInTurn, StepsLeadTo, Swept};
 ghost use Rattle.clu_reduce.specs.declared.step.Step.{Step};
 
 use crate::row::{may_reduce, row_after, row_sum};
@@ -18,11 +18,11 @@ use std::alloc::{AllocError, Global};
 
 /// Sweeps until a sweep takes no step.
 pub fn reduce_all<S: Situation>(alloc: Global, state: &mut S) -> Result<Seq<Step>, AllocError>
-    ensures held { IfOk result (λ steps. AllHold (S.state state.old) steps) }
+    ensures held { IfOk result (λ steps. StepsHold (S.state state.old) steps) }
     ensures state { IfOk result (λ steps. S.state state.new ≡ stepped (S.state state.old) steps) }
     ensures keeps { IfOk result (λ _. KeepsWorth (S.state state.old) (S.state state.new)) }
     ensures irreducible { IfOk result (λ _. IsIrreducible (S.state state.new)) }
-    ensures refused { IfErr result (λ _. (steps : List Step) × Lead (S.state state.old) steps (S.state state.new)) }
+    ensures refused { IfErr result (λ _. (steps : List Step) × StepsLeadTo (S.state state.old) steps (S.state state.new)) }
 {
     // For the prover: the state is a valid one.
     let _members = state.members();
@@ -33,10 +33,10 @@ pub fn reduce_all<S: Situation>(alloc: Global, state: &mut S) -> Result<Seq<Step
 
 /// The same, appended to steps that led to the state.
 fn sweep_all<S: Situation>(state: &mut S, steps: &mut Seq<Step>) -> Result<(), AllocError>
-    ensures leads { OnOk result ((s : State) → Lead s steps.old (S.state state.old) → Lead s steps.new (S.state state.new)) }
+    ensures leads { OnOk result ((s : State) → StepsLeadTo s steps.old (S.state state.old) → StepsLeadTo s steps.new (S.state state.new)) }
     ensures irreducible { OnOk result (IsIrreducible (S.state state.new)) }
-    ensures refused { IfErr result (λ _. (s : State) → Lead s steps.old (S.state state.old)
-        → (taken : List Step) × Lead s taken (S.state state.new)) }
+    ensures refused { IfErr result (λ _. (s : State) → StepsLeadTo s steps.old (S.state state.old)
+        → (taken : List Step) × StepsLeadTo s taken (S.state state.new)) }
 {
     while sweep(state, steps)? {}
     Ok(())
@@ -46,8 +46,8 @@ fn sweep_all<S: Situation>(state: &mut S, steps: &mut Seq<Step>) -> Result<(), A
 fn sweep<S: Situation>(state: &mut S, steps: &mut Seq<Step>) -> Result<bool, AllocError>
     ensures swept { IfOk result (λ made. Swept (S.state state.old) steps.old (S.state state.new) steps.new made) }
     ensures none { IfOk result (λ made. made ≡ false → IsIrreducible (S.state state.old)) }
-    ensures refused { IfErr result (λ _. (s : State) → Lead s steps.old (S.state state.old)
-        → (taken : List Step) × Lead s taken (S.state state.new)) }
+    ensures refused { IfErr result (λ _. (s : State) → StepsLeadTo s steps.old (S.state state.old)
+        → (taken : List Step) × StepsLeadTo s taken (S.state state.new)) }
 {
     // For the prover: the state is a valid one.
     let _members = state.members();
@@ -69,8 +69,8 @@ fn sweep_kind<S: Situation>(
     ensures none { IfOk result (λ made. made ≡ false → (u v : ℕ) → Contains (S.state state.old).members u
         → Contains (S.state state.old).members v
         → IsDue (S.state state.old) (record { kind = kind; u = u; v = v }) → ⊥) }
-    ensures refused { IfErr result (λ _. (s : State) → Lead s steps.old (S.state state.old)
-        → (taken : List Step) × Lead s taken (S.state state.new)) }
+    ensures refused { IfErr result (λ _. (s : State) → StepsLeadTo s steps.old (S.state state.old)
+        → (taken : List Step) × StepsLeadTo s taken (S.state state.new)) }
 {
     let mut made = false;
     for i in 0..state.members().len() {
@@ -92,8 +92,8 @@ fn sweep_row<S: Situation>(
     ensures members { IfOk result (λ _. (S.state state.new).members ≡ (S.state state.old).members) }
     ensures none { IfOk result (λ made. made ≡ false → (v : ℕ) → Contains (S.state state.old).members v
         → IsDue (S.state state.old) (record { kind = kind; u = u; v = v }) → ⊥) }
-    ensures refused { IfErr result (λ _. (s : State) → Lead s steps.old (S.state state.old)
-        → (taken : List Step) × Lead s taken (S.state state.new)) }
+    ensures refused { IfErr result (λ _. (s : State) → StepsLeadTo s steps.old (S.state state.old)
+        → (taken : List Step) × StepsLeadTo s taken (S.state state.new)) }
 {
     let mut made = false;
     let mut row = row_sum(state, kind, u);
@@ -116,7 +116,7 @@ fn try_step<S: Situation>(
 ) -> Result<bool, AllocError>
     requires first { Contains (S.state state.old).members step.now.u }
     requires second { Contains (S.state state.old).members step.now.v }
-    requires row { IsRow (S.state state.old) step.now.kind step.now.u row }
+    requires row { IsRowSum (S.state state.old) step.now.kind step.now.u row }
     ensures swept { IfOk result (λ made. Swept (S.state state.old) steps.old (S.state state.new) steps.new made) }
     ensures members { IfOk result (λ _. (S.state state.new).members ≡ (S.state state.old).members) }
     ensures none { IfOk result (λ made. made ≡ false → IsDue (S.state state.old) step.now → ⊥) }
@@ -137,7 +137,7 @@ fn try_step<S: Situation>(
 fn is_due<S: Situation>(state: &S, step: &Step, row: i128) -> bool
     requires first { Contains (S.state state.now).members step.now.u }
     requires second { Contains (S.state state.now).members step.now.v }
-    requires row { IsRow (S.state state.now) step.now.kind step.now.u row }
+    requires row { IsRowSum (S.state state.now) step.now.kind step.now.u row }
     ensures { IsTrue result ↔ IsDue (S.state state.now) step.now }
 {
     if !is_in_turn(state, step) {
@@ -166,7 +166,7 @@ fn is_in_turn<S: Situation>(state: &S, step: &Step) -> bool
 
 /// Whether a kind's pairs are looked at with these two in this order.
 fn is_first(kind: Kind, u: Vertex, v: Vertex) -> bool
-    ensures { IsTrue result ↔ IsFirst kind u v }
+    ensures { IsTrue result ↔ InKindOrder kind u v }
 {
     match kind {
         Kind::Twin | Kind::Pair => u < v,

@@ -17,9 +17,9 @@ use Rattle.clu_partition.proofs.TableLaws.{weight_sym}
 use Rattle.clu_state.specs.State.{State, IsState, InClass, leader, are_apart, group_weight, group_leaders, fixed_value}
 use Rattle.clu_state.proofs.Bridge.{state_are_groups, each_from, below_all}
 use Rattle.clu_state.proofs.Bounds.{all_small, fixed_size, weight_small}
-use Rattle.clu_rows.specs.Rows.{TwoSet, names, priced, row_limit, excess, floor_div, leaf_bound_of}
+use Rattle.clu_rows.specs.Rows.{TwoSet, names_group, priced, row_limit, excess, floor_div, leaf_bound_of}
 use Rattle.clu_rows.specs.Prices.{uncovered, uncovered_with, uncovered_all}
-use Rattle.clu_rows.specs.Faults.{AreRows, IsRow, worth_of}
+use Rattle.clu_rows.specs.Faults.{AreRows, IsRow, rows_mass}
 use Rattle.clu_rows.proofs.HitLaws.{once_from, once_apart}
 use Rattle.clu_rows.proofs.Sizes.{abs_scale, excess_small, row_worth}
 use Rattle.clu_rows.proofs.FaultLaws.{two_of}
@@ -178,7 +178,7 @@ all_in xs = λ k d l. (k, l, in_bounds xs k d (get_or xs k d) l)
     in_bounds (x ∷ xs) (suc k) d e l = in_bounds xs k d e (omega arith)
 
 -- ---- the excess
-worth_is : (rows : List TwoSet) → total row_worth rows ≡ pos (worth_of rows)
+worth_is : (rows : List TwoSet) → total row_worth rows ≡ pos (rows_mass rows)
 worth_is [] = refl
 worth_is (r ∷ rows) =
     let h = worth_is rows in
@@ -235,7 +235,7 @@ excess_is s i den prices rows p = all_is s den prices rows s.members p (each_fro
 pub rows_bound : (s : State) → IsState s → (den : ℕ) (rows : List TwoSet) → 0 < den → AreRows s rows → (label : ℕ → ℕ) → InClass s label → value_on (weight_of s.pairs) label s.members ≤ℤ leaf_bound_of s den rows
 rows_bound s i den rows d a label c = class_bound s label den rows i c d (disjoint_rows rows a.each)
   where
-    each_in : (xs : List ℕ) (r : TwoSet) → IsRow s r → Each (λ x. (names (leader s) r.s x && names (leader s) r.t x) ≡ false) xs
+    each_in : (xs : List ℕ) (r : TwoSet) → IsRow s r → Each (λ x. (names_group (leader s) r.s x && names_group (leader s) r.t x) ≡ false) xs
     each_in [] r h = tt
     each_in (x ∷ xs) r h = (once_apart (leader s) r.s r.t x (once_from (leader s) (r.s ++ r.t) h.once), each_in xs r h)
 

@@ -5,7 +5,7 @@ use Rattle.std.proofs.lemmas.Bool.{ne_eqb, true≢false}
 use Rattle.clu_partition.specs.Sums.{total, pair_total, cross_total, only_if, positive}
 use Rattle.clu_partition.specs.Values.{value_on}
 use Rattle.clu_partition.specs.Groups.{leaders, between}
-use Rattle.clu_rows.specs.Rows.{joined, TwoSet, names, sign, coefficient, priced, row_limit, excess, floor_div, bound_of_rows}
+use Rattle.clu_rows.specs.Rows.{indicator, TwoSet, names_group, sign, coefficient, priced, row_limit, excess, floor_div, bound_of_rows}
 use Rattle.clu_partition.proofs.SumLaws.{Each, Among, Rising, total_cong, total_le, total_add, total_zero, pair_cong_on, pair_le, pair_add, pair_scale, pair_swap, scale_le}
 use Rattle.clu_rows.proofs.TwoSets.{TwoSets, two_sets, joined_sym}
 use Rattle.clu_state.proofs.Class.{Respects}
@@ -43,53 +43,53 @@ abbrev signed : (ℕ → ℕ) → (ℕ → Bool) → (ℕ → Bool) → ℕ → 
 signed label s t a b = only_if (label a == label b) (sign (s a) (t a) (s b) (t b))
 
 row_in_s : (label : ℕ → ℕ) (s t : ℕ → Bool) (a : ℕ) (xs : List ℕ) → Each (λ x. (s x && t x) ≡ false) xs →
-    total (λ b. only_if (label a == label b) (sign true false (s b) (t b))) xs +ℤ total (joined label a) (filter s xs) ≡ total (joined label a) (filter t xs)
+    total (λ b. only_if (label a == label b) (sign true false (s b) (t b))) xs +ℤ total (indicator label a) (filter s xs) ≡ total (indicator label a) (filter t xs)
 row_in_s label s t a [] d = refl
-row_in_s label s t a (x ∷ xs) d = in_s (joined label a) x (filter s xs) (filter t xs) (label a == label x) (s x) (t x) _ refl d.0 (row_in_s label s t a xs d.1)
+row_in_s label s t a (x ∷ xs) d = in_s (indicator label a) x (filter s xs) (filter t xs) (label a == label x) (s x) (t x) _ refl d.0 (row_in_s label s t a xs d.1)
 
 row_in_t : (label : ℕ → ℕ) (s t : ℕ → Bool) (a : ℕ) (xs : List ℕ) → Each (λ x. (s x && t x) ≡ false) xs →
-    total (λ b. only_if (label a == label b) (sign false true (s b) (t b))) xs +ℤ total (joined label a) (filter t xs) ≡ total (joined label a) (filter s xs)
+    total (λ b. only_if (label a == label b) (sign false true (s b) (t b))) xs +ℤ total (indicator label a) (filter t xs) ≡ total (indicator label a) (filter s xs)
 row_in_t label s t a [] d = refl
-row_in_t label s t a (x ∷ xs) d = in_t (joined label a) x (filter s xs) (filter t xs) (label a == label x) (s x) (t x) _ refl d.0 (row_in_t label s t a xs d.1)
+row_in_t label s t a (x ∷ xs) d = in_t (indicator label a) x (filter s xs) (filter t xs) (label a == label x) (s x) (t x) _ refl d.0 (row_in_t label s t a xs d.1)
 
 row_in_none : (label : ℕ → ℕ) (s t : ℕ → Bool) (a : ℕ) (xs : List ℕ) →
     total (λ b. only_if (label a == label b) (sign false false (s b) (t b))) xs ≡ pos 0
 row_in_none label s t a xs = total_cong (λ b. only_if (label a == label b) (sign false false (s b) (t b))) (λ _. pos 0) xs (λ b. only_if_zero (label a == label b)) ∙ total_zero xs
 
 pairs_step : (label : ℕ → ℕ) (s t : ℕ → Bool) (a : ℕ) (xs : List ℕ) (sa ta : Bool) → (sa && ta) ≡ false → Each (λ x. (s x && t x) ≡ false) xs →
-    pair_total (signed label s t) xs +ℤ pair_total (joined label) (filter s xs) +ℤ pair_total (joined label) (filter t xs) ≡ cross_total (joined label) (filter s xs) (filter t xs) →
-    (total (λ b. only_if (label a == label b) (sign sa ta (s b) (t b))) xs +ℤ pair_total (signed label s t) xs) +ℤ pair_total (joined label) (cond sa (a ∷ filter s xs) (filter s xs)) +ℤ pair_total (joined label) (cond ta (a ∷ filter t xs) (filter t xs))
-    ≡ cross_total (joined label) (cond sa (a ∷ filter s xs) (filter s xs)) (cond ta (a ∷ filter t xs) (filter t xs))
+    pair_total (signed label s t) xs +ℤ pair_total (indicator label) (filter s xs) +ℤ pair_total (indicator label) (filter t xs) ≡ cross_total (indicator label) (filter s xs) (filter t xs) →
+    (total (λ b. only_if (label a == label b) (sign sa ta (s b) (t b))) xs +ℤ pair_total (signed label s t) xs) +ℤ pair_total (indicator label) (cond sa (a ∷ filter s xs) (filter s xs)) +ℤ pair_total (indicator label) (cond ta (a ∷ filter t xs) (filter t xs))
+    ≡ cross_total (indicator label) (cond sa (a ∷ filter s xs) (filter s xs)) (cond ta (a ∷ filter t xs) (filter t xs))
 pairs_step label s t a xs true true d all h = absurd (cc)
 pairs_step label s t a xs true false d all h = let k = row_in_s label s t a xs all in omega (arith, ints, h, k)
 pairs_step label s t a xs false true d all h =
     let k = row_in_t label s t a xs all in
-    let e = total_add (λ x. joined label x a) (λ x. total (joined label x) (filter t xs)) (filter s xs) in
-    let f = total_cong (λ x. joined label x a) (joined label a) (filter s xs) (λ x. joined_sym label x a) in
+    let e = total_add (λ x. indicator label x a) (λ x. total (indicator label x) (filter t xs)) (filter s xs) in
+    let f = total_cong (λ x. indicator label x a) (indicator label a) (filter s xs) (λ x. joined_sym label x a) in
     omega (arith, ints, h, k, e, f)
 pairs_step label s t a xs false false d all h = let k = row_in_none label s t a xs in omega (arith, ints, h, k)
 
 -- the sum of a row over a partition is that across less those inside
 pub signed_total : (label : ℕ → ℕ) (s t : ℕ → Bool) (xs : List ℕ) → Each (λ x. (s x && t x) ≡ false) xs →
-    pair_total (signed label s t) xs +ℤ pair_total (joined label) (filter s xs) +ℤ pair_total (joined label) (filter t xs) ≡ cross_total (joined label) (filter s xs) (filter t xs)
+    pair_total (signed label s t) xs +ℤ pair_total (indicator label) (filter s xs) +ℤ pair_total (indicator label) (filter t xs) ≡ cross_total (indicator label) (filter s xs) (filter t xs)
 signed_total label s t [] d = refl
 signed_total label s t (x ∷ xs) d = pairs_step label s t x xs (s x) (t x) d.0 d.1 (signed_total label s t xs d.1)
 
 -- ---- how many groups a list names
-named : (group : ℕ → ℕ) (vs xs : List ℕ) → Rising xs → length (filter (names group vs) xs) ≤ length vs
-named group vs xs r = let h = names_count group vs xs r in let k = length_is (names group vs) xs in omega (arith, ints, h, k)
+named : (group : ℕ → ℕ) (vs xs : List ℕ) → Rising xs → length (filter (names_group group vs) xs) ≤ length vs
+named group vs xs r = let h = names_count group vs xs r in let k = length_is (names_group group vs) xs in omega (arith, ints, h, k)
 
 -- no group is named in both lists of a row
 abbrev pub Disjoint : (ℕ → ℕ) → List ℕ → TwoSet → Type 0
-Disjoint group groups r = Each (λ x. (names group r.s x && names group r.t x) ≡ false) groups
+Disjoint group groups r = Each (λ x. (names_group group r.s x && names_group group r.t x) ≡ false) groups
 
 -- the sum of a row's coefficients over the pairs of groups that share a block is at most the shorter list's length
 pub row_holds : (label group : ℕ → ℕ) (groups : List ℕ) (r : TwoSet) → Rising groups → Disjoint group groups r →
     pair_total (λ a b. only_if (label a == label b) (coefficient group r a b)) groups ≤ℤ pos (min (length r.s) (length r.t))
 unfolding TwoSets
 row_holds label group groups r up d =
-    let k = signed_total label (names group r.s) (names group r.t) groups d in
-    let h = two_sets label (filter (names group r.s) groups) (filter (names group r.t) groups) in
+    let k = signed_total label (names_group group r.s) (names_group group r.t) groups d in
+    let h = two_sets label (filter (names_group group r.s) groups) (filter (names_group group r.t) groups) in
     let i = named group r.s groups up in
     let j = named group r.t groups up in
     omega (arith, ints, k, h, i, j)

@@ -12,9 +12,9 @@ use Rattle.clu_partition.proofs.SumLaws.{total_le, total_cong_on, total_swap, pi
 use Rattle.clu_partition.proofs.Regroup.{filter_total, leaders_rising}
 use Rattle.clu_state.specs.State.{State, IsState, leader, group_leaders}
 use Rattle.clu_state.proofs.Bridge.{state_are_groups, leader_among}
-use Rattle.clu_rows.specs.Rows.{TwoSet, names}
+use Rattle.clu_rows.specs.Rows.{TwoSet, names_group}
 use Rattle.clu_partition.specs.Groups.{NamesOnce}
-use Rattle.clu_rows.specs.Faults.{IsRow, IsFirstFault, worth_of}
+use Rattle.clu_rows.specs.Faults.{IsRow, IsFirstBadRow, rows_mass}
 use Rattle.clu_rows.proofs.HitLaws.{each_all, once, once_from}
 use Rattle.clu_partition.proofs.ListLaws.{every}
 
@@ -78,7 +78,7 @@ few_names s i vs m o =
     let b = total_swap (λ v x. only_if (leader s v == x) (pos 1)) vs (group_leaders s) in
     let c = total_le (λ x. total (λ v. only_if (leader s v == x) (pos 1)) vs) (λ _. pos 1) (λ _. Unit {0}) (group_leaders s) (every (group_leaders s)) (λ x _.
     let e = once (leader s) x (pos 1) vs (once_from (leader s) vs o) in
-    let k = at_most (names (leader s) vs x) in
+    let k = at_most (names_group (leader s) vs x) in
     omega (arith, ints, e, k)) in
     let d = few_leaders (leader s) s.members in
     let e = total_ones vs in
@@ -140,22 +140,22 @@ room_kept y room a b r ey ea eb p l =
         subst (λ k. room - y * ((a + b) * (a + b)) + k * (s + t) ^ 2 ≡ room) ey (subst (λ k. room - y * ((a + b) * (a + b)) + y * (k + t) ^ 2 ≡ room) ea (subst (λ k. room - y * ((a + b) * (a + b)) + y * (a + k) ^ 2 ≡ room) eb (let q = ap (λ k. y * k) (two_of (a + b)) in omega (arith, h, q))))
 
 -- ---- all rows
-pub worth_next : (i : ℕ) (r : TwoSet) (rows : List TwoSet) → i < length rows → r ≡ get_or rows i r → worth_of (take (i + 1) rows) ≡ worth_of (take i rows) + r.y * (length r.s + length r.t) ^ 2
-worth_next i r rows l e = sum_by_more (λ (r : TwoSet). r.y * (length r.s + length r.t) ^ 2) rows i r l ∙ ap (λ (q : TwoSet). worth_of (take i rows) + q.y * (length q.s + length q.t) ^ 2) (sym e)
+pub worth_next : (i : ℕ) (r : TwoSet) (rows : List TwoSet) → i < length rows → r ≡ get_or rows i r → rows_mass (take (i + 1) rows) ≡ rows_mass (take i rows) + r.y * (length r.s + length r.t) ^ 2
+worth_next i r rows l e = sum_by_more (λ (r : TwoSet). r.y * (length r.s + length r.t) ^ 2) rows i r l ∙ ap (λ (q : TwoSet). rows_mass (take i rows) + q.y * (length q.s + length q.t) ^ 2) (sym e)
 
-pub room_next : (i : ℕ) (r : TwoSet) (rows : List TwoSet) (room left : ℕ) → i < length rows → r ≡ get_or rows i r → left + r.y * (length r.s + length r.t) ^ 2 ≡ room → room + worth_of (take i rows) ≡ 2 ^ 120 → left + worth_of (take (i + 1) rows) ≡ 2 ^ 120
+pub room_next : (i : ℕ) (r : TwoSet) (rows : List TwoSet) (room left : ℕ) → i < length rows → r ≡ get_or rows i r → left + r.y * (length r.s + length r.t) ^ 2 ≡ room → room + rows_mass (take i rows) ≡ 2 ^ 120 → left + rows_mass (take (i + 1) rows) ≡ 2 ^ 120
 room_next i r rows room left l e k q = let n = worth_next i r rows l e in omega (arith, n, k, q)
 
 pub rows_next : (s : State) (i : ℕ) (r : TwoSet) (rows : List TwoSet) → i < length rows → r ≡ get_or rows i r → All (IsRow s) (take i rows) → IsRow s r → All (IsRow s) (take (i + 1) rows)
 rows_next s i r rows l e a p = All-more (IsRow s) rows i r l a (subst (IsRow s) e p)
 
-pub fault_at : (s : State) (i : ℕ) (r : TwoSet) (rows : List TwoSet) (room : ℕ) → i < length rows → r ≡ get_or rows i r → All (IsRow s) (take i rows) → room + worth_of (take i rows) ≡ 2 ^ 120 →
-    (IsRow s r → room < r.y * (length r.s + length r.t) ^ 2) → IsFirstFault s rows (i + 1)
+pub fault_at : (s : State) (i : ℕ) (r : TwoSet) (rows : List TwoSet) (room : ℕ) → i < length rows → r ≡ get_or rows i r → All (IsRow s) (take i rows) → room + rows_mass (take i rows) ≡ 2 ^ 120 →
+    (IsRow s r → room < r.y * (length r.s + length r.t) ^ 2) → IsFirstBadRow s rows (i + 1)
 fault_at s i r rows room l e a q n = record {
   counted = (omega arith, omega (arith, l));
   before = λ k m.
       let t : take k (take i rows) ≡ take k rows = front k i rows (omega (arith, m)) in
-      let w = ap worth_of t in
+      let w = ap rows_mass t in
       let b = sum_by-take-le (λ (r : TwoSet). r.y * (length r.s + length r.t) ^ 2) (take i rows) k in
       record { each = subst (All (IsRow s)) t (All-take (IsRow s) k (take i rows) a); small = omega (arith, q, w, b) };
   at' = λ h.

@@ -2,7 +2,7 @@
 use Rattle.std.proofs.Common.{◌≡◌, ℕ, ◌<◌, ◌≤◌, ◌+◌, ◌-◌, List, [], ◌∷◌, ◌++◌, length, take, drop, get_or, zero, suc, refl, sym, ap, ◌∙◌, subst, arith, slice_range, length-append, length-drop}
 use Rattle.std.proofs.lemmas.List.{drop-append-le, take-append-le, drop_at, take_all}
 use Rattle.clu_rows.specs.Rows.{TwoSet}
-use Rattle.clu_rows.specs.Flat.{rows_from, AreEnds, start_at}
+use Rattle.clu_rows.specs.Flat.{rows_from, AreRowEnds, start_at}
 use Rattle.clu_rows.specs.declared.rows.RowEnd.{RowEnd}
 
 abbrev pub two_set : (s t : List ℕ) (y : ℕ) → TwoSet
@@ -20,15 +20,15 @@ last_part xs more i j e f =
     ap (take (j - i)) (drop_at xs more i (sym e)) ∙ take_all (j - i) more (omega (arith, e, f, l))
 
 -- ---- a row more
-ends_within : (start size : ℕ) (ends : List RowEnd) → AreEnds start size ends → start ≤ size
+ends_within : (start size : ℕ) (ends : List RowEnd) → AreRowEnds start size ends → start ≤ size
 ends_within start size [] a = omega (arith, a)
 ends_within start size (e ∷ es) a = let r = ends_within e.end size es a.2 in let p = a.0 in let q = a.1 in omega (arith, p, q, r)
 
-pub ends_more : (start size : ℕ) (ends : List RowEnd) (e : RowEnd) → AreEnds start size ends → size ≤ e.middle → e.middle ≤ e.end → AreEnds start e.end (ends ++ e ∷ [])
+pub ends_more : (start size : ℕ) (ends : List RowEnd) (e : RowEnd) → AreRowEnds start size ends → size ≤ e.middle → e.middle ≤ e.end → AreRowEnds start e.end (ends ++ e ∷ [])
 ends_more start size [] e a l m = (omega (arith, a, l), m, refl)
 ends_more start size (d ∷ ds) e a l m = (a.0, a.1, ends_more d.end size ds e a.2 l m)
 
-pub rows_more : (vertices s t : List ℕ) (start : ℕ) (ends : List RowEnd) (e : RowEnd) → AreEnds start (length vertices) ends → e.middle ≡ length (vertices ++ s) → e.end ≡ length ((vertices ++ s) ++ t) →
+pub rows_more : (vertices s t : List ℕ) (start : ℕ) (ends : List RowEnd) (e : RowEnd) → AreRowEnds start (length vertices) ends → e.middle ≡ length (vertices ++ s) → e.end ≡ length ((vertices ++ s) ++ t) →
     rows_from ((vertices ++ s) ++ t) start (ends ++ e ∷ []) ≡ rows_from vertices start ends ++ two_set s t e.y ∷ []
 rows_more vertices s t start [] e a m n =
     let l = length-append (vertices ++ s) t in
@@ -64,7 +64,7 @@ pub record Stands (vertices : List ℕ) (start : ℕ) (ends : List RowEnd) (i : 
   pub within : e.end ≤ length vertices
   pub row : (d : TwoSet) → two_set (slice_range vertices (start_at start ends i) e.middle) (slice_range vertices e.middle e.end) e.y ≡ get_or (rows_from vertices start ends) i d
 
-pub row_stands : (vertices : List ℕ) (start : ℕ) (ends : List RowEnd) (i : ℕ) (e : RowEnd) → AreEnds start (length vertices) ends → i < length ends → e ≡ get_or ends i e → Stands vertices start ends i e
+pub row_stands : (vertices : List ℕ) (start : ℕ) (ends : List RowEnd) (i : ℕ) (e : RowEnd) → AreRowEnds start (length vertices) ends → i < length ends → e ≡ get_or ends i e → Stands vertices start ends i e
 row_stands vertices start [] i e a l q = absurd (omega (arith, l))
 row_stands vertices start (d ∷ ds) zero e a l q = subst (Stands vertices start (d ∷ ds) 0) (sym q) (record {
   first = a.0;
@@ -78,16 +78,16 @@ row_stands vertices start (d ∷ ds) (suc i) e a l q =
 
 -- what a push leaves, where the lists are as they were with the row's vertices and its ends behind them
 pub record Pushed (vertices : List ℕ) (ends : List RowEnd) (rows : List TwoSet) : Type 0 where
-  pub ends_fill : AreEnds 0 (length vertices) ends
+  pub ends_fill : AreRowEnds 0 (length vertices) ends
   pub rows_are : rows_from vertices 0 ends ≡ rows
 
-pub pushed : (vs s t vs' : List ℕ) (es es' : List RowEnd) (e : RowEnd) (rows : List TwoSet) → AreEnds 0 (length vs) es → rows_from vs 0 es ≡ rows → vs' ≡ (vs ++ s) ++ t → es' ≡ es ++ e ∷ [] →
+pub pushed : (vs s t vs' : List ℕ) (es es' : List RowEnd) (e : RowEnd) (rows : List TwoSet) → AreRowEnds 0 (length vs) es → rows_from vs 0 es ≡ rows → vs' ≡ (vs ++ s) ++ t → es' ≡ es ++ e ∷ [] →
     e.middle ≡ length vs + length s → e.end ≡ (length vs + length s) + length t → Pushed vs' es' (rows ++ two_set s t e.y ∷ [])
 pushed vs s t vs' es es' e rows a r p q m n =
     let k = length-append vs s in
     let l = length-append (vs ++ s) t in
     subst (λ xs. Pushed xs es' (rows ++ two_set s t e.y ∷ [])) (sym p) (subst (λ ends. Pushed ((vs ++ s) ++ t) ends (rows ++ two_set s t e.y ∷ [])) (sym q) (record {
-      ends_fill = subst (λ size. AreEnds 0 size (es ++ e ∷ [])) (n ∙ ap (λ x. x + length t) (sym k) ∙ sym l) (ends_more 0 (length vs) es e a (omega (arith, m)) (omega (arith, m, n)));
+      ends_fill = subst (λ size. AreRowEnds 0 size (es ++ e ∷ [])) (n ∙ ap (λ x. x + length t) (sym k) ∙ sym l) (ends_more 0 (length vs) es e a (omega (arith, m)) (omega (arith, m, n)));
       rows_are = rows_more vs s t 0 es e a (m ∙ sym k) (n ∙ ap (λ x. x + length t) (sym k) ∙ sym l) ∙ ap (λ xs. xs ++ two_set s t e.y ∷ []) r;
     }))
 

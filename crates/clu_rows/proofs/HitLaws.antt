@@ -3,7 +3,7 @@ use Rattle.std.proofs.Common.{◌≡◌, ◌≢◌, ⊎_elim, ℕ, ℤ, pos, ◌
 use Rattle.std.proofs.lemmas.Int.{ints}
 use Rattle.std.proofs.lemmas.Bool.{ne_eqb, cases_eq, or_from, and_right}
 use Rattle.clu_partition.specs.Sums.{total, pair_total, cross_total, only_if}
-use Rattle.clu_rows.specs.Rows.{TwoSet, sign, names, coefficient}
+use Rattle.clu_rows.specs.Rows.{TwoSet, sign, names_group, coefficient}
 use Rattle.clu_partition.proofs.SumLaws.{Each, total_cong, total_add}
 use Rattle.std.proofs.Common.{All}
 use Rattle.std.proofs.lemmas.List.Elements.{All-contains}
@@ -19,14 +19,14 @@ abbrev pub Once : (ℕ → ℕ) → List ℕ → Type 0
 Once group [] = Unit {0}
 Once group (v ∷ vs) = Each (λ w. group v ≢ group w) vs × Once group vs
 
-not_named : (group : ℕ → ℕ) (v x : ℕ) (vs : List ℕ) → Each (λ w. group v ≢ group w) vs → group v ≡ x → names group vs x ≡ false
+not_named : (group : ℕ → ℕ) (v x : ℕ) (vs : List ℕ) → Each (λ w. group v ≢ group w) vs → group v ≡ x → names_group group vs x ≡ false
 not_named group v x [] e q = refl
-not_named group v x (w ∷ vs) e q = or_from (group w == x) (names group vs x) (ne_eqb (group w) x (λ h. e.0 (q ∙ sym h))) (not_named group v x vs e.1 q)
+not_named group v x (w ∷ vs) e q = or_from (group w == x) (names_group group vs x) (ne_eqb (group w) x (λ h. e.0 (q ∙ sym h))) (not_named group v x vs e.1 q)
 
-named_cases : (group : ℕ → ℕ) (v x : ℕ) (vs : List ℕ) → Each (λ w. group v ≢ group w) vs → ((group v == x) && names group vs x) ≡ false
+named_cases : (group : ℕ → ℕ) (v x : ℕ) (vs : List ℕ) → Each (λ w. group v ≢ group w) vs → ((group v == x) && names_group group vs x) ≡ false
 named_cases group v x vs e = ⊎_elim
     (λ q. ap (λ k. (group v == x) && k) (not_named group v x vs e q) ∙ and_right (group v == x) false refl)
-    (λ n. ap (λ k. k && names group vs x) (ne_eqb (group v) x n))
+    (λ n. ap (λ k. k && names_group group vs x) (ne_eqb (group v) x n))
     (cases_eq (group v) x)
 
 once_step : (p n : Bool) (Z rest : ℤ) → (p && n) ≡ false → rest ≡ only_if n Z → only_if p Z +ℤ rest ≡ only_if (p || n) Z
@@ -34,12 +34,12 @@ once_step true true Z rest d h = absurd (cc)
 once_step true false Z rest d h = omega (arith, ints, h)
 once_step false n Z rest d h = omega (arith, ints, h)
 
-pub once : (group : ℕ → ℕ) (x : ℕ) (Z : ℤ) (vs : List ℕ) → Once group vs → total (λ v. only_if (group v == x) Z) vs ≡ only_if (names group vs x) Z
+pub once : (group : ℕ → ℕ) (x : ℕ) (Z : ℤ) (vs : List ℕ) → Once group vs → total (λ v. only_if (group v == x) Z) vs ≡ only_if (names_group group vs x) Z
 once group x Z [] o = refl
-once group x Z (v ∷ vs) o = once_step (group v == x) (names group vs x) Z _ (named_cases group v x vs o.0) (once group x Z vs o.1)
+once group x Z (v ∷ vs) o = once_step (group v == x) (names_group group vs x) Z _ (named_cases group v x vs o.0) (once group x Z vs o.1)
 
 -- one vertex with a list
-pub with_is : (group : ℕ → ℕ) (x z : ℕ) (k : ℤ) (v : ℕ) (ws : List ℕ) → x ≢ z → Once group ws → total (hit group x z k v) ws ≡ only_if (group v == x) (only_if (names group ws z) k) +ℤ only_if (group v == z) (only_if (names group ws x) k)
+pub with_is : (group : ℕ → ℕ) (x z : ℕ) (k : ℤ) (v : ℕ) (ws : List ℕ) → x ≢ z → Once group ws → total (hit group x z k v) ws ≡ only_if (group v == x) (only_if (names_group group ws z) k) +ℤ only_if (group v == z) (only_if (names_group group ws x) k)
 with_is group x z k v ws d o =
     let a = total_cong (hit group x z k v) (λ w. only_if (group v == x) (only_if (group w == z) k) +ℤ only_if (group v == z) (only_if (group w == x) k)) ws (λ w. pair_split (group v == x) (group w == z) (group v == z) (group w == x) k (not_both (group v) x z d)) in
     let b = total_add (λ w. only_if (group v == x) (only_if (group w == z) k)) (λ w. only_if (group v == z) (only_if (group w == x) k)) ws in
@@ -48,12 +48,12 @@ with_is group x z k v ws d o =
     omega (arith, ints, a, b, c, e)
 
 pub across_is : (group : ℕ → ℕ) (x z : ℕ) (k : ℤ) (vs ws : List ℕ) → x ≢ z → Once group vs → Once group ws →
-    cross_total (hit group x z k) vs ws ≡ only_if (names group vs x) (only_if (names group ws z) k) +ℤ only_if (names group vs z) (only_if (names group ws x) k)
+    cross_total (hit group x z k) vs ws ≡ only_if (names_group group vs x) (only_if (names_group group ws z) k) +ℤ only_if (names_group group vs z) (only_if (names_group group ws x) k)
 across_is group x z k vs ws d o p =
-    let a = total_cong (λ v. total (hit group x z k v) ws) (λ v. only_if (group v == x) (only_if (names group ws z) k) +ℤ only_if (group v == z) (only_if (names group ws x) k)) vs (λ v. with_is group x z k v ws d p) in
-    let b = total_add (λ v. only_if (group v == x) (only_if (names group ws z) k)) (λ v. only_if (group v == z) (only_if (names group ws x) k)) vs in
-    let c = once group x (only_if (names group ws z) k) vs o in
-    let e = once group z (only_if (names group ws x) k) vs o in
+    let a = total_cong (λ v. total (hit group x z k v) ws) (λ v. only_if (group v == x) (only_if (names_group group ws z) k) +ℤ only_if (group v == z) (only_if (names_group group ws x) k)) vs (λ v. with_is group x z k v ws d p) in
+    let b = total_add (λ v. only_if (group v == x) (only_if (names_group group ws z) k)) (λ v. only_if (group v == z) (only_if (names_group group ws x) k)) vs in
+    let c = once group x (only_if (names_group group ws z) k) vs o in
+    let e = once group z (only_if (names_group group ws x) k) vs o in
     omega (arith, ints, a, b, c, e)
 
 inside_step : (p r nx nz : Bool) (k rest : ℤ) → (p && r) ≡ false → (p && nx) ≡ false → (r && nz) ≡ false → rest ≡ only_if nx (only_if nz k) →
@@ -66,11 +66,11 @@ inside_step false true true false k rest a b c h = omega (arith, ints, h)
 inside_step false true false false k rest a b c h = omega (arith, ints, h)
 inside_step false false nx nz k rest a b c h = omega (arith, ints, h)
 
-pub inside_is : (group : ℕ → ℕ) (x z : ℕ) (k : ℤ) (vs : List ℕ) → x ≢ z → Once group vs → pair_total (hit group x z k) vs ≡ only_if (names group vs x) (only_if (names group vs z) k)
+pub inside_is : (group : ℕ → ℕ) (x z : ℕ) (k : ℤ) (vs : List ℕ) → x ≢ z → Once group vs → pair_total (hit group x z k) vs ≡ only_if (names_group group vs x) (only_if (names_group group vs z) k)
 inside_is group x z k [] d o = refl
 inside_is group x z k (v ∷ vs) d o =
     ap (λ t. t +ℤ pair_total (hit group x z k) vs) (with_is group x z k v vs d o.1) ∙
-    inside_step (group v == x) (group v == z) (names group vs x) (names group vs z) k _ (not_both (group v) x z d) (named_cases group v x vs o.0) (named_cases group v z vs o.0) (inside_is group x z k vs d o.1)
+    inside_step (group v == x) (group v == z) (names_group group vs x) (names_group group vs z) k _ (not_both (group v) x z d) (named_cases group v x vs o.0) (named_cases group v z vs o.0) (inside_is group x z k vs d o.1)
 
 sign_sum : (y : ℕ) (sx tx sz tz : Bool) → (sx && tx) ≡ false → (sz && tz) ≡ false →
     pos y *ℤ sign sx tx sz tz ≡ (only_if sx (only_if tz (pos y)) +ℤ only_if sz (only_if tx (pos y))) -ℤ only_if sx (only_if sz (pos y)) -ℤ only_if tx (only_if tz (pos y))
@@ -89,13 +89,13 @@ sign_sum y false false false true d e = omega (arith, ints)
 sign_sum y false false false false d e = omega (arith, ints)
 
 -- what the loops over a row's vertices add to a pair is the row's part of q
-pub row_adds : (group : ℕ → ℕ) (r : TwoSet) (x z : ℕ) → x ≢ z → Once group r.s → Once group r.t → (names group r.s x && names group r.t x) ≡ false → (names group r.s z && names group r.t z) ≡ false →
+pub row_adds : (group : ℕ → ℕ) (r : TwoSet) (x z : ℕ) → x ≢ z → Once group r.s → Once group r.t → (names_group group r.s x && names_group group r.t x) ≡ false → (names_group group r.s z && names_group group r.t z) ≡ false →
     pos r.y *ℤ coefficient group r x z ≡ cross_total (hit group x z (pos r.y)) r.s r.t -ℤ pair_total (hit group x z (pos r.y)) r.s -ℤ pair_total (hit group x z (pos r.y)) r.t
 row_adds group r x z d o p e f =
     let a = across_is group x z (pos r.y) r.s r.t d o p in
     let b = inside_is group x z (pos r.y) r.s d o in
     let c = inside_is group x z (pos r.y) r.t d p in
-    let g = sign_sum r.y (names group r.s x) (names group r.t x) (names group r.s z) (names group r.t z) e f in
+    let g = sign_sum r.y (names_group group r.s x) (names_group group r.t x) (names_group group r.s z) (names_group group r.t z) e f in
     omega (arith, ints, a, b, c, g)
 
 -- ---- from the rows' own words
@@ -118,6 +118,6 @@ or_and : (p n m : Bool) → (p && m) ≡ false → (n && m) ≡ false → ((p ||
 or_and true n m a b = a
 or_and false n m a b = b
 
-pub once_apart : (group : ℕ → ℕ) (xs ys : List ℕ) (x : ℕ) → Once group (xs ++ ys) → (names group xs x && names group ys x) ≡ false
+pub once_apart : (group : ℕ → ℕ) (xs ys : List ℕ) (x : ℕ) → Once group (xs ++ ys) → (names_group group xs x && names_group group ys x) ≡ false
 once_apart group [] ys x o = refl
-once_apart group (v ∷ xs) ys x o = or_and (group v == x) (names group xs x) (names group ys x) (named_cases group v x ys (each_left (λ w. group v ≢ group w) xs ys o.0).1) (once_apart group xs ys x o.1)
+once_apart group (v ∷ xs) ys x o = or_and (group v == x) (names_group group xs x) (names_group group ys x) (named_cases group v x ys (each_left (λ w. group v ≢ group w) xs ys o.0).1) (once_apart group xs ys x o.1)

@@ -15,12 +15,12 @@ use Rattle.clu_state.proofs.Bridge.{leader_among, contains_from}
 use Rattle.clu_partition.proofs.JoinLaws.{joins_turn}
 use Rattle.clu_rows.specs.Packing.{CanApply, IsMaximal}
 use Rattle.clu_rows.specs.Packing.IsPacking.{nothing}
-use Rattle.clu_rows.specs.Table.{Packed, Stuck, Settled}
+use Rattle.clu_rows.specs.Table.{IsLeftTable, Stuck, AllStuck}
 use Rattle.clu_rows.proofs.Steps.{stuck_turn}
 use Rattle.clu_partition.proofs.PairLaws.{one_less}
 
 AllSettled : State → List ℕ → Pairs → Type 0
-AllSettled s groups left = (x y z : ℕ) → x < y → y < z → z < length groups → Settled s groups left x y z
+AllSettled s groups left = (x y z : ℕ) → x < y → y < z → z < length groups → AllStuck s groups left x y z
 
 stuck_any : (s : State) (groups : List ℕ) (left : Pairs) (x y z : ℕ) → AllSettled s groups left → x < length groups → y < length groups → z < length groups → x ≢ y → x ≢ z → y ≢ z → Stuck s groups left x y z
 unfolding AllSettled
@@ -59,7 +59,7 @@ opposed : (apart : Bool) (w l : ℤ) → w ≡ only_if (not apart) l → (apart 
 opposed true w l e c = inl refl
 opposed false w l e c = ⊎_elim (λ h. absurd (false≢true h)) (λ h. inr (omega (arith, ints, e, h))) c
 
-pub maximal : (s : State) (groups : List ℕ) (left : Pairs) (rows : List TwoSet) → Packed s groups left rows → ((x y z : ℕ) → x < y → y < z → z < length groups → Settled s groups left x y z) → IsMaximal s rows
+pub maximal : (s : State) (groups : List ℕ) (left : Pairs) (rows : List TwoSet) → IsLeftTable s groups left rows → ((x y z : ℕ) → x < y → y < z → z < length groups → AllStuck s groups left x y z) → IsMaximal s rows
 unfolding AllSettled
 maximal s groups left rows p h = λ a b c t can.
     let i = index_of s groups a p.state p.groups_are t.first t.first_least in
@@ -77,7 +77,7 @@ maximal s groups left rows p h = λ a b c t can.
 
 -- ---- the table before the first triangle
 pub first_table : (s : State) (groups : List ℕ) (left : Pairs) → IsState s → groups ≡ group_leaders s → length groups ≤ left.n →
-    ((x z : ℕ) → x < z → z < length groups → weight_of left x z ≡ only_if (not (are_apart s (slice_index groups x) (slice_index groups z))) (group_weight s (slice_index groups x) (slice_index groups z))) → Packed s groups left []
+    ((x z : ℕ) → x < z → z < length groups → weight_of left x z ≡ only_if (not (are_apart s (slice_index groups x) (slice_index groups z))) (group_weight s (slice_index groups x) (slice_index groups z))) → IsLeftTable s groups left []
 first_table s groups left i e n h = record {
   state = i;
   groups_are = e;

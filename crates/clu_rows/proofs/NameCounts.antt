@@ -5,7 +5,7 @@ use Rattle.std.proofs.lemmas.Bool.{eq-eqb, ne_eqb, cases_eq}
 use Rattle.clu_partition.specs.Sums.{total, only_if}
 use Rattle.clu_partition.proofs.SumLaws.{Each, Rising, total_le, total_add, total_zero, pick_none}
 use Rattle.clu_partition.proofs.ListLaws.{every}
-use Rattle.clu_rows.specs.Rows.{names}
+use Rattle.clu_rows.specs.Rows.{names_group}
 
 at_most_one : (c : ℕ) (xs : List ℕ) → Rising xs → total (λ a. only_if (c == a) (pos 1)) xs ≤ℤ pos 1
 at_most_one c [] r = omega (arith, ints)
@@ -32,13 +32,13 @@ or_count false true = omega (arith, ints)
 or_count false false = omega (arith, ints)
 
 -- a list names no more groups than it has elements
-pub names_count : (group : ℕ → ℕ) (vs xs : List ℕ) → Rising xs → total (λ a. only_if (names group vs a) (pos 1)) xs ≤ℤ pos (length vs)
+pub names_count : (group : ℕ → ℕ) (vs xs : List ℕ) → Rising xs → total (λ a. only_if (names_group group vs a) (pos 1)) xs ≤ℤ pos (length vs)
 names_count group [] xs r = let z = total_zero xs in omega (arith, ints, z)
 names_count group (v ∷ vs) xs r =
     let h = names_count group vs xs r in
     let k = at_most_one (group v) xs r in
-    let l = total_le (λ a. only_if ((group v == a) || names group vs a) (pos 1)) (λ a. only_if (group v == a) (pos 1) +ℤ only_if (names group vs a) (pos 1)) (λ _. Unit {0}) xs (every xs) (λ a _. or_count (group v == a) (names group vs a)) in
-    let e = total_add (λ a. only_if (group v == a) (pos 1)) (λ a. only_if (names group vs a) (pos 1)) xs in
+    let l = total_le (λ a. only_if ((group v == a) || names_group group vs a) (pos 1)) (λ a. only_if (group v == a) (pos 1) +ℤ only_if (names_group group vs a) (pos 1)) (λ _. Unit {0}) xs (every xs) (λ a _. or_count (group v == a) (names_group group vs a)) in
+    let e = total_add (λ a. only_if (group v == a) (pos 1)) (λ a. only_if (names_group group vs a) (pos 1)) xs in
     omega (arith, ints, h, k, l, e)
 
 length_step : (b : Bool) (x : ℕ) (ys : List ℕ) (rest : ℤ) → rest ≡ pos (length ys) → only_if b (pos 1) +ℤ rest ≡ pos (length (cond b (x ∷ ys) ys))

@@ -6,7 +6,7 @@ use Rattle.std.proofs.lemmas.Bool.{cases_eq}
 use Rattle.std.proofs.lemmas.List.{drop-append-le, take-append-le, get_or_append_left, get_or_push}
 use Rattle.std.proofs.lemmas.List.Elements.{All-nil, All-push}
 use Rattle.clu_partition.specs.Pairs.{Pairs, weight_of}
-use Rattle.clu_rows.specs.Table.{Nearer, AreNear, HasList, near_at, AreNearBelow, AreAllNear}
+use Rattle.clu_rows.specs.Table.{NearerZero, AreNear, HasList, near_at, AreNearBelow, AreAllNear}
 use Rattle.clu_rows.specs.declared.near.NearLists.{NearLists}
 
 -- ---- a list that grows behind the others
@@ -165,10 +165,10 @@ one_list left count i old new before more bounds =
     }
 
 -- ---- while the packing goes on
-near_stays : (left new : Pairs) (count i : ℕ) (near : List ℕ) → count ≤ left.n → i < count → Nearer left new → AreNear left count i near → AreNear new count i near
+near_stays : (left new : Pairs) (count i : ℕ) (near : List ℕ) → count ≤ left.n → i < count → NearerZero left new → AreNear left count i near → AreNear new count i near
 near_stays left new count i near l ic f a = record { within = a.within; all = λ z iz zc h. a.all z iz zc ((f i z (omega (arith, l, ic)) (omega (arith, l, zc))).0 h) }
 
-pub all_near_stay : (left new : Pairs) (count : ℕ) (near : NearLists) → count ≤ left.n → Nearer left new → AreAllNear left count near → AreAllNear new count near
+pub all_near_stay : (left new : Pairs) (count : ℕ) (near : NearLists) → count ≤ left.n → NearerZero left new → AreAllNear left count near → AreAllNear new count near
 all_near_stay left new count near l f a = record { size = a.size; end = a.end; has = a.has; each = λ i ic. near_stays left new count i _ l ic f (a.each i ic) }
 
 pub listed : (left : Pairs) (count i : ℕ) (near : NearLists) (thirds : List ℕ) → AreAllNear left count near → i < count → thirds ≡ near_at near i → AreNear left count i thirds

@@ -11,7 +11,7 @@ use Rattle.clu_state.proofs.Bridge.{state_are_groups, each_from}
 use Rattle.clu_partition.proofs.JoinLaws.{joins_turn}
 use Rattle.clu_rows.specs.Packing.{left_of, triangle}
 use Rattle.clu_rows.specs.Packing.IsPacking.{one_more}
-use Rattle.clu_rows.specs.Table.{Packed, SamePair, Changed}
+use Rattle.clu_rows.specs.Table.{IsLeftTable, SamePair, Changed}
 use Rattle.clu_rows.proofs.Steps.{by_pair}
 use Rattle.clu_rows.proofs.Signs.{tests, signs_of, none_first, none_second, left_after, away}
 use Rattle.clu_partition.proofs.ListLaws.{each_at, rising_at}
@@ -73,11 +73,11 @@ third_if true y t r d p e c = inl refl
 third_if false y t r d p e c = ⊎_elim (λ m. inl m.0) (λ m. inr (let n = m.0 in omega (arith, ints, e, n))) c
 
 -- ---- the whole table
-pub packed_next : (s : State) (groups : List ℕ) (old new : Pairs) (rows : List TwoSet) (a b c y : ℕ) (d : ℤ) → Packed s groups old rows →
+pub packed_next : (s : State) (groups : List ℕ) (old new : Pairs) (rows : List TwoSet) (a b c y : ℕ) (d : ℤ) → IsLeftTable s groups old rows →
     a < length groups → b < length groups → c < length groups → a ≢ b → a ≢ c → b ≢ c → 0 < y → pos y ≤ℤ weight_of old a b → pos y ≤ℤ weight_of old a c →
     ((are_apart s (slice_index groups b) (slice_index groups c) ≡ true) × (d ≡ pos 0)) ⊎ ((weight_of old b c ≤ℤ neg_ℤ (pos y)) × (d ≡ pos y)) →
     Changed old new a b c (pos y) d →
-    Packed s groups new (rows ++ triangle (slice_index groups a) (slice_index groups b) (slice_index groups c) y ∷ [])
+    IsLeftTable s groups new (rows ++ triangle (slice_index groups a) (slice_index groups b) (slice_index groups c) y ∷ [])
 packed_next s groups old new rows a b c y d p la lb lc ab ac bc py yb yc third ch =
     let u = slice_index groups a in
     let v = slice_index groups b in

@@ -18,7 +18,7 @@ use Rattle.clu_state.specs.State.{State, IsState, InClass, leader, are_apart, gr
 use Rattle.clu_state.proofs.Bounds.{fixed_size}
 use Rattle.clu_rows.specs.Packing.{IsPacking, excess_of, left_of}
 use Rattle.clu_rows.specs.Rows.{TwoSet, row_limit, leaf_bound_of}
-use Rattle.clu_rows.specs.Table.{Packed}
+use Rattle.clu_rows.specs.Table.{IsLeftTable}
 use Rattle.clu_rows.proofs.BoundLaws.{rows_bound}
 use Rattle.clu_rows.proofs.PackSizes.{excess_is, excess_small, floor_one, pack_size}
 use Rattle.clu_rows.proofs.Sound.{packing_rows}
@@ -54,13 +54,13 @@ only_above : (free : Bool) (z : ℤ) → pos (positive (only_if free z)) ≡ onl
 only_above true z = refl
 only_above false z = refl
 
-above_is : (s : State) (groups : List ℕ) (left : Pairs) (rows : List TwoSet) → Packed s groups left rows → (i j : ℕ) → i < length groups → j < length groups → i < j
+above_is : (s : State) (groups : List ℕ) (left : Pairs) (rows : List TwoSet) → IsLeftTable s groups left rows → (i j : ℕ) → i < length groups → j < length groups → i < j
     → gain_left s rows (slice_index groups i) (slice_index groups j) ≡ above left i j
 above_is s groups left rows p i j il jl ij =
     sym (ap (λ z. pos (positive z)) (p.agrees i j il jl (λ e. omega (arith, e, ij))) ∙
     only_above (not (are_apart s (slice_index groups i) (slice_index groups j))) (left_of s rows (slice_index groups i) (slice_index groups j)))
 
-pub above_all : (s : State) (groups : List ℕ) (left : Pairs) (rows : List TwoSet) → Packed s groups left rows
+pub above_all : (s : State) (groups : List ℕ) (left : Pairs) (rows : List TwoSet) → IsLeftTable s groups left rows
     → pair_total (above left) (below (length groups)) ≡ excess_of s rows
 above_all s groups left rows p =
     let by_place : ℕ → ℕ → ℤ = λ i j. gain_left s rows (slice_index groups i) (slice_index groups j) in
@@ -70,7 +70,7 @@ above_all s groups left rows p =
     ap (pair_total (gain_left s rows)) p.groups_are ∙
     sym (excess_is s rows)
 
-pub above_small : (s : State) (groups : List ℕ) (left : Pairs) (rows : List TwoSet) → Packed s groups left rows → (i j : ℕ) (r : ℤ) → i < j → j < length groups
+pub above_small : (s : State) (groups : List ℕ) (left : Pairs) (rows : List TwoSet) → IsLeftTable s groups left rows → (i j : ℕ) (r : ℤ) → i < j → j < length groups
     → r ≡ above left i j → unsigned_abs r ≤ 2 ^ 88
 above_small s groups left rows p i j r ij jl e =
     let none : ℕ → ℕ → ℤ = λ _ _. pos 0 in

@@ -12,10 +12,10 @@ use Rattle.clu_partition.specs.Sums.{total, pair_total, cross_total, only_if}
 use Rattle.clu_partition.specs.Pairs.{Pairs, weight_of}
 use Rattle.clu_partition.proofs.TableLaws.{weight_sym, weight_same}
 use Rattle.clu_state.specs.State.{State, leader}
-use Rattle.clu_rows.specs.Rows.{TwoSet, coefficient, priced, names, sign, row_limit}
+use Rattle.clu_rows.specs.Rows.{TwoSet, coefficient, priced, names_group, sign, row_limit}
 use Rattle.clu_rows.specs.Prices.{hit}
 use Rattle.clu_partition.specs.Groups.{NamesOnce}
-use Rattle.clu_rows.specs.Faults.{IsRow, AreRows, worth_of}
+use Rattle.clu_rows.specs.Faults.{IsRow, AreRows, rows_mass}
 use Rattle.clu_rows.proofs.Adding.{front_small, part_small, part_all, hits_all, pairs_neg}
 use Rattle.clu_rows.proofs.HitLaws.{row_adds, once_from, once_parts, once_apart}
 use Rattle.clu_rows.proofs.Sizes.{sign_small, abs_scale}
@@ -155,12 +155,12 @@ sign_one sa ta sb tb =
 term_small : (group : ℕ → ℕ) (r : TwoSet) (x z : ℕ) → 0 < length r.s → unsigned_abs (pos r.y *ℤ coefficient group r x z) ≤ r.y * (length r.s + length r.t) ^ 2
 term_small group r x z p =
     let a = abs_scale r.y (coefficient group r x z) in
-    let b = mul-le-mul_left r.y (sign_one (names group r.s x) (names group r.t x) (names group r.s z) (names group r.t z)) in
+    let b = mul-le-mul_left r.y (sign_one (names_group group r.s x) (names_group group r.t x) (names_group group r.s z) (names_group group r.t z)) in
     let q = ap (λ k. r.y * k) (two_of (length r.s + length r.t)) in
     let l = mul-le-mul_left r.y (square_above (length r.s + length r.t) (omega (arith, p))) in
     omega (arith, ints, a, b, q, l)
 
-cell_small : (s : State) (rows : List TwoSet) (x z : ℕ) → All (IsRow s) rows → unsigned_abs (priced (leader s) rows x z) ≤ worth_of rows
+cell_small : (s : State) (rows : List TwoSet) (x z : ℕ) → All (IsRow s) rows → unsigned_abs (priced (leader s) rows x z) ≤ rows_mass rows
 cell_small s [] x z a = omega (arith, ints)
 cell_small s (r ∷ rows) x z a =
     let h = cell_small s rows x z (All-tail (IsRow s) r rows a) in
@@ -169,7 +169,7 @@ cell_small s (r ∷ rows) x z a =
     let w = sum_by-cons (λ (r : TwoSet). r.y * (length r.s + length r.t) ^ 2) r rows in
     omega (arith, ints, h, k, e, w)
 
-pub row_worth_small : (s : State) (i : ℕ) (r : TwoSet) (rows : List TwoSet) → i < length rows → r ≡ get_or rows i r → AreRows s rows → worth_of (take i rows) + r.y * (length r.s + length r.t) ^ 2 ≤ 2 ^ 120
+pub row_worth_small : (s : State) (i : ℕ) (r : TwoSet) (rows : List TwoSet) → i < length rows → r ≡ get_or rows i r → AreRows s rows → rows_mass (take i rows) + r.y * (length r.s + length r.t) ^ 2 ≤ 2 ^ 120
 row_worth_small s i r rows l e a =
     let n = worth_next i r rows l e in
     let m = sum_by-take-le (λ (r : TwoSet). r.y * (length r.s + length r.t) ^ 2) rows (i + 1) in
@@ -229,7 +229,7 @@ side_small y s t =
 pub product_pos : (y m : ℕ) → pos y *ℤ pos m ≡ pos (y * m)
 product_pos y m = omega (arith, ints)
 
-limit_small : (rows : List TwoSet) → row_limit rows ≤ℤ pos (worth_of rows)
+limit_small : (rows : List TwoSet) → row_limit rows ≤ℤ pos (rows_mass rows)
 limit_small [] = omega (arith, ints)
 limit_small (r ∷ rows) =
     let h = limit_small rows in
@@ -247,7 +247,7 @@ pub record NextLimit (i : ℕ) (rows : List TwoSet) (sum more : ℕ) : Type 0 wh
   pub next : pos (sum + more) ≡ row_limit (take (i + 1) rows)
   pub small : sum + more ≤ 2 ^ 120
 
-pub limit_next : (i : ℕ) (r : TwoSet) (rows : List TwoSet) (sum y m : ℕ) → i < length rows → r ≡ get_or rows i r → y ≡ r.y → m ≡ min (length r.s) (length r.t) → worth_of rows ≤ 2 ^ 120 → pos sum ≡ row_limit (take i rows) → NextLimit i rows sum (y * m)
+pub limit_next : (i : ℕ) (r : TwoSet) (rows : List TwoSet) (sum y m : ℕ) → i < length rows → r ≡ get_or rows i r → y ≡ r.y → m ≡ min (length r.s) (length r.t) → rows_mass rows ≤ 2 ^ 120 → pos sum ≡ row_limit (take i rows) → NextLimit i rows sum (y * m)
 limit_next i r rows sum y m l e ey em w h =
     let t = total_next (λ (r : TwoSet). pos r.y *ℤ pos (min (length r.s) (length r.t))) i rows r l in
     let k = ap (λ (r : TwoSet). pos r.y *ℤ pos (min (length r.s) (length r.t))) e in

@@ -4,7 +4,7 @@ use Rattle.std.proofs.Math.Nat.{mul-le-mul_left}
 use Rattle.std.proofs.lemmas.Int.{ints}
 use Rattle.clu_partition.specs.Sums.{total, pair_total, only_if}
 use Rattle.clu_partition.specs.Groups.{leaders, between}
-use Rattle.clu_rows.specs.Rows.{TwoSet, sign, names, coefficient, priced, excess}
+use Rattle.clu_rows.specs.Rows.{TwoSet, sign, names_group, coefficient, priced, excess}
 use Rattle.clu_partition.specs.Sums.{positive}
 use Rattle.clu_partition.proofs.SumLaws.{Rising, total_le, total_add, pair_le, pair_add, pair_scale, pair_zero, scale_le}
 use Rattle.clu_partition.proofs.ListLaws.{every}
@@ -13,7 +13,7 @@ use Rattle.clu_rows.proofs.NameCounts.{or_count, names_count, length_is}
 
 -- ---- how many groups a row names
 either : (ℕ → ℕ) → TwoSet → ℕ → Bool
-either group r a = names group r.s a || names group r.t a
+either group r a = names_group group r.s a || names_group group r.t a
 
 named_count : (group : ℕ → ℕ) (r : TwoSet) (xs : List ℕ) → Rising xs → length (filter (either group r) xs) ≤ length r.s + length r.t
 unfolding either
@@ -21,8 +21,8 @@ named_count group r xs up =
     let e = length_is (either group r) xs in
     let a = names_count group r.s xs up in
     let b = names_count group r.t xs up in
-    let l = total_le (λ a. only_if (either group r a) (pos 1)) (λ a. only_if (names group r.s a) (pos 1) +ℤ only_if (names group r.t a) (pos 1)) (λ _. Unit {0}) xs (every xs) (λ a _. or_count (names group r.s a) (names group r.t a)) in
-    let f = total_add (λ a. only_if (names group r.s a) (pos 1)) (λ a. only_if (names group r.t a) (pos 1)) xs in
+    let l = total_le (λ a. only_if (either group r a) (pos 1)) (λ a. only_if (names_group group r.s a) (pos 1) +ℤ only_if (names_group group r.t a) (pos 1)) (λ _. Unit {0}) xs (every xs) (λ a _. or_count (names_group group r.s a) (names_group group r.t a)) in
+    let f = total_add (λ a. only_if (names_group group r.s a) (pos 1)) (λ a. only_if (names_group group r.t a) (pos 1)) xs in
     omega (arith, ints, e, a, b, l, f)
 
 -- ---- pairs of a list that pass a test
@@ -58,7 +58,7 @@ square_le a b h = let k = mul-le-mul_left a h in let l = mul-le-mul_left b h in 
 pub row_size : (group : ℕ → ℕ) (r : TwoSet) (xs : List ℕ) → Rising xs → pair_total (λ a b. pos (unsigned_abs (coefficient group r a b))) xs ≤ℤ pos ((length r.s + length r.t) * (length r.s + length r.t))
 unfolding either
 row_size group r xs up =
-    let a = pair_le (λ a b. pos (unsigned_abs (coefficient group r a b))) (λ a b. only_if (either group r a) (only_if (either group r b) (pos 1))) (λ _. Unit {0}) xs (every xs) (λ a b _ _. sign_small (names group r.s a) (names group r.t a) (names group r.s b) (names group r.t b)) in
+    let a = pair_le (λ a b. pos (unsigned_abs (coefficient group r a b))) (λ a b. only_if (either group r a) (only_if (either group r b) (pos 1))) (λ _. Unit {0}) xs (every xs) (λ a b _ _. sign_small (names_group group r.s a) (names_group group r.t a) (names_group group r.s b) (names_group group r.t b)) in
     let b = square_count (either group r) xs in
     let c = named_count group r xs up in
     let d = square_le (length (filter (either group r) xs)) (length r.s + length r.t) c in

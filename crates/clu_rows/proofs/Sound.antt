@@ -8,7 +8,7 @@ use Rattle.clu_rows.specs.Rows.{TwoSet}
 use Rattle.clu_state.specs.State.{State, IsState, leader, group_leaders}
 use Rattle.clu_rows.specs.Packing.{triangle, IsPacking}
 use Rattle.clu_rows.specs.Packing.IsPacking.{nothing, one_more}
-use Rattle.clu_rows.specs.Faults.{IsRow, AreRows, worth_of}
+use Rattle.clu_rows.specs.Faults.{IsRow, AreRows, rows_mass}
 use Rattle.clu_rows.proofs.Spent.{gain_left, spent, y_of, y_more, y_none, spent_least}
 use Rattle.clu_rows.proofs.PackSizes.{first_size}
 use Rattle.clu_state.proofs.Bounds.{all_small}
@@ -23,7 +23,7 @@ first_gains s i =
     let t = i.total in
     omega (arith, ints, h, k, t)
 
-worth_is : (s : State) {rows : List TwoSet} → IsPacking s rows → pos (worth_of rows) ≡ pos 9 *ℤ total y_of rows
+worth_is : (s : State) {rows : List TwoSet} → IsPacking s rows → pos (rows_mass rows) ≡ pos 9 *ℤ total y_of rows
 worth_is s nothing = y_none
 worth_is s (one_more {rows} {a} {b} {c} {y} p t l can) =
     let h = worth_is s p in

@@ -3,7 +3,7 @@ use Rattle.std.proofs.Common.{◌≡◌, ◌≢◌, ◌⊎◌, inl, inr, ⊎_eli
 use Rattle.std.proofs.lemmas.Int.{ints}
 use Rattle.clu_partition.specs.Sums.{total, pair_total, only_if}
 use Rattle.clu_partition.specs.Pairs.{weight_of}
-use Rattle.clu_rows.specs.Rows.{TwoSet, sign, names, coefficient}
+use Rattle.clu_rows.specs.Rows.{TwoSet, sign, names_group, coefficient}
 use Rattle.clu_partition.specs.Sums.{positive}
 use Rattle.clu_partition.proofs.SumLaws.{Each, Among, Rising, total_le, total_cong, below_later, total_append, pair_least, only_least}
 use Rattle.clu_partition.proofs.TableLaws.{weight_sym}
@@ -73,7 +73,7 @@ sign_turn false false false false = refl
 left_turn : (s : State) (rows : List TwoSet) (x z : ℕ) → left_of s rows x z ≡ left_of s rows z x
 left_turn s rows x z =
     let a = between_sym (weight_of s.pairs) (weight_sym s.pairs) (leader s) s.members (leader s x) (leader s z) in
-    let b = total_cong (λ (r : TwoSet). pos r.y *ℤ coefficient (leader s) r x z) (λ r. pos r.y *ℤ coefficient (leader s) r z x) rows (λ r. ap (λ k. pos r.y *ℤ k) (sign_turn (names (leader s) r.s x) (names (leader s) r.t x) (names (leader s) r.s z) (names (leader s) r.t z))) in
+    let b = total_cong (λ (r : TwoSet). pos r.y *ℤ coefficient (leader s) r x z) (λ r. pos r.y *ℤ coefficient (leader s) r z x) rows (λ r. ap (λ k. pos r.y *ℤ k) (sign_turn (names_group (leader s) r.s x) (names_group (leader s) r.t x) (names_group (leader s) r.s z) (names_group (leader s) r.t z))) in
     omega (arith, ints, a, b)
 
 -- ---- a step

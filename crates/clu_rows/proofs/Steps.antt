@@ -8,7 +8,7 @@ use Rattle.clu_partition.proofs.GridLaws.{grid_set}
 use Rattle.clu_partition.proofs.TableLaws.{set_same, set_other, weight_sym}
 use Rattle.clu_state.specs.State.{State, leader, kept_apart}
 use Rattle.clu_partition.proofs.JoinLaws.{joins_turn}
-use Rattle.clu_rows.specs.Table.{SamePair, Changed, Nearer, Stuck, Settled}
+use Rattle.clu_rows.specs.Table.{SamePair, Changed, NearerZero, Stuck, AllStuck}
 
 -- ---- pairs of places
 same_or_not : (a b x z : ℕ) → SamePair a b x z ⊎ (SamePair a b x z → ⊥)
@@ -67,7 +67,7 @@ unfolding Near
 near_same old new x z e = (λ h. omega (arith, ints, e, h), λ h. omega (arith, ints, e, h))
 
 pub nearer_step : (old new : Pairs) (a b c : ℕ) (y d : ℤ) → pos 0 ≤ℤ y → y ≤ℤ weight_of old a b → y ≤ℤ weight_of old a c → ((d ≡ pos 0) ⊎ ((pos 0 ≤ℤ d) × (weight_of old b c ≤ℤ neg_ℤ d))) →
-    Changed old new a b c y d → Nearer old new
+    Changed old new a b c y d → NearerZero old new
 unfolding Near
 nearer_step old new a b c y d p q r t h = λ x z i j.
     let one = near_lower old new a b y p q h.first in
@@ -76,7 +76,7 @@ nearer_step old new a b c y d p q r t h = λ x z i j.
     by_pair (Near old new) a b c x z one (near_turn old new a b one) two (near_turn old new a c two) three (near_turn old new b c three)
     (λ k l m. near_same old new x z (h.others x z i j k l m))
 
-pub stuck_stays : (s : State) (groups : List ℕ) (old new : Pairs) (a b c : ℕ) → Nearer old new → a < old.n → b < old.n → c < old.n → Stuck s groups old a b c → Stuck s groups new a b c
+pub stuck_stays : (s : State) (groups : List ℕ) (old new : Pairs) (a b c : ℕ) → NearerZero old new → a < old.n → b < old.n → c < old.n → Stuck s groups old a b c → Stuck s groups new a b c
 stuck_stays s groups old new a b c n i j k h = λ p q r. h ((n a b i j).0 p) ((n a c i k).0 q) (⊎_elim (λ e. inl e) (λ l. inr ((n b c j k).1 l)) r)
 
 -- the two others of a centre change places
@@ -85,31 +85,31 @@ stuck_turn s groups left a b c h = λ p q r. h q p (⊎_elim
     (λ e. inl (joins_turn (leader s) (kept_apart s) (slice_index groups c) (slice_index groups b) ∙ e))
     (λ l. inr (let e = weight_sym left b c in omega (arith, ints, l, e))) r)
 
-pub settled_second : (s : State) (groups : List ℕ) (left : Pairs) (i j k : ℕ) → Settled s groups left j i k → Settled s groups left i j k
+pub settled_second : (s : State) (groups : List ℕ) (left : Pairs) (i j k : ℕ) → AllStuck s groups left j i k → AllStuck s groups left i j k
 settled_second s groups left i j k h = record { at_first = h.at_second; at_second = h.at_first; at_third = stuck_turn s groups left k i j h.at_third }
 
-pub settled_third : (s : State) (groups : List ℕ) (left : Pairs) (i j k : ℕ) → Settled s groups left k i j → Settled s groups left i j k
+pub settled_third : (s : State) (groups : List ℕ) (left : Pairs) (i j k : ℕ) → AllStuck s groups left k i j → AllStuck s groups left i j k
 settled_third s groups left i j k h = record { at_first = stuck_turn s groups left i j k h.at_second; at_second = stuck_turn s groups left j i k h.at_third; at_third = h.at_first }
 
 -- where the third pair was not above 0, only its own centre could be
-pub settled_by : (s : State) (groups : List ℕ) (old new : Pairs) (a b c : ℕ) → Nearer old new → b < old.n → c < old.n → weight_of old b c ≤ℤ pos 0 → Stuck s groups new a b c → Settled s groups new a b c
+pub settled_by : (s : State) (groups : List ℕ) (old new : Pairs) (a b c : ℕ) → NearerZero old new → b < old.n → c < old.n → weight_of old b c ≤ℤ pos 0 → Stuck s groups new a b c → AllStuck s groups new a b c
 settled_by s groups old new a b c n j k idle h = record {
   at_first = h;
   at_second = λ p q r. let z = (n b c j k).0 q in omega (arith, ints, z, idle);
   at_third = λ p q r. let e = weight_sym new b c in let z = (n b c j k).0 (omega (arith, ints, q, e)) in omega (arith, ints, z, idle);
 }
 
-pub settled_stays : (s : State) (groups : List ℕ) (old new : Pairs) (a b c : ℕ) → Nearer old new → a < old.n → b < old.n → c < old.n → Settled s groups old a b c → Settled s groups new a b c
+pub settled_stays : (s : State) (groups : List ℕ) (old new : Pairs) (a b c : ℕ) → NearerZero old new → a < old.n → b < old.n → c < old.n → AllStuck s groups old a b c → AllStuck s groups new a b c
 settled_stays s groups old new a b c n i j k h = record {
   at_first = stuck_stays s groups old new a b c n i j k h.at_first;
   at_second = stuck_stays s groups old new b a c n j i k h.at_second;
   at_third = stuck_stays s groups old new c a b n k i j h.at_third;
 }
 
-pub nearer_same : (t : Pairs) → Nearer t t
+pub nearer_same : (t : Pairs) → NearerZero t t
 nearer_same t = λ x z i j. ((λ h. h), (λ h. h))
 
-pub nearer_trans : (t u v : Pairs) → u.n ≡ t.n → Nearer t u → Nearer u v → Nearer t v
+pub nearer_trans : (t u v : Pairs) → u.n ≡ t.n → NearerZero t u → NearerZero u v → NearerZero t v
 nearer_trans t u v e f g = λ x z i j. ((λ h. (f x z i j).0 ((g x z (omega (arith, e, i)) (omega (arith, e, j))).0 h)), (λ h. (f x z i j).1 ((g x z (omega (arith, e, i)) (omega (arith, e, j))).1 h)))
 
 -- ---- the three writes

@@ -6,7 +6,7 @@ use Rattle.clu_rows.specs.Rows.{TwoSet}
 use Rattle.clu_partition.specs.Pairs.{Pairs, weight_of}
 use Rattle.clu_state.specs.State.{State, IsState, leader, are_apart, group_leaders}
 use Rattle.clu_rows.specs.Packing.{left_of, triangle}
-use Rattle.clu_rows.specs.Table.{Packed, Changed, Nearer, Stuck}
+use Rattle.clu_rows.specs.Table.{IsLeftTable, Changed, NearerZero, Stuck}
 use Rattle.clu_rows.proofs.Steps.{nearer_step}
 use Rattle.clu_rows.proofs.Next.{packed_next, leading}
 use Rattle.std.proofs.lemmas.Bool.{false≢true}
@@ -16,7 +16,7 @@ pub record Places (s : State) (groups : List ℕ) (b c : ℕ) (v w : ℕ) : Type
   pub second : Contains s.members w
   pub differ : leader s v ≢ leader s w
 
-pub places : (s : State) (groups : List ℕ) (left : Pairs) (rows : List TwoSet) (b c v w : ℕ) → Packed s groups left rows → b < length groups → c < length groups → b ≢ c → v ≡ slice_index groups b → w ≡ slice_index groups c → Places s groups b c v w
+pub places : (s : State) (groups : List ℕ) (left : Pairs) (rows : List TwoSet) (b c v w : ℕ) → IsLeftTable s groups left rows → b < length groups → c < length groups → b ≢ c → v ≡ slice_index groups b → w ≡ slice_index groups c → Places s groups b c v w
 places s groups left rows b c v w p lb lc d e f =
     let g = leading s groups p.state p.groups_are in
     subst (λ v. Places s groups b c v w) (sym e) (subst (λ w. Places s groups b c (slice_index groups b) w) (sym f) (record {
@@ -39,12 +39,12 @@ for_near : (third rise : ℤ) (n : ℕ) (X : Type 0) → (X × (rise ≡ pos 0))
 for_near third rise n X h = ⊎_elim (λ k. inl k.1) (λ k. let a = k.0 in let b = k.1 in inr (omega (arith, ints, a, b), omega (arith, ints, a, b))) h
 
 pub record Tried (s : State) (groups : List ℕ) (old new : Pairs) (rows' : List TwoSet) (a b c : ℕ) : Type 0 where
-  pub packed : Packed s groups new rows'
-  pub nearer : Nearer old new
+  pub packed : IsLeftTable s groups new rows'
+  pub nearer : NearerZero old new
   pub stuck : Stuck s groups new a b c
 
 -- what `lower` asks of the third pair
-pub rise_fits : (s : State) (groups : List ℕ) (old : Pairs) (rows : List TwoSet) (b c : ℕ) (third y rise : ℤ) → Packed s groups old rows → b < length groups → c < length groups → b ≢ c → third ≡ weight_of old b c → pos 0 <ℤ y →
+pub rise_fits : (s : State) (groups : List ℕ) (old : Pairs) (rows : List TwoSet) (b c : ℕ) (third y rise : ℤ) → IsLeftTable s groups old rows → b < length groups → c < length groups → b ≢ c → third ≡ weight_of old b c → pos 0 <ℤ y →
     (third <ℤ pos 0 → third ≤ℤ neg_ℤ y) → (third <ℤ pos 0 → rise ≡ y) → (pos 0 ≤ℤ third → rise ≡ pos 0) → (rise ≡ pos 0) ⊎ ((pos 0 ≤ℤ rise) × (weight_of old b c ≤ℤ neg_ℤ rise))
 rise_fits s groups old rows b c third y rise p lb lc d e py m k i = by_sign third e m k i
   where
@@ -52,7 +52,7 @@ rise_fits s groups old rows b c third y rise p lb lc d e py m k i = by_sign thir
     by_sign (pos n) e m k i = inl (i (omega (arith, ints)))
     by_sign (negsuc n) e m k i = let l : negsuc n <ℤ pos 0 = omega (arith, ints) in let q = m l in let r = k l in inr (omega (arith, ints, q, r, py), omega (arith, ints, q, r, e))
 
-pub tried : (s : State) (groups : List ℕ) (old new : Pairs) (rows rows' : List TwoSet) (row : TwoSet) (a b c u v w n : ℕ) (first second third y rise : ℤ) → Packed s groups old rows →
+pub tried : (s : State) (groups : List ℕ) (old new : Pairs) (rows rows' : List TwoSet) (row : TwoSet) (a b c u v w n : ℕ) (first second third y rise : ℤ) → IsLeftTable s groups old rows →
     a < length groups → b < length groups → c < length groups → a ≢ b → a ≢ c → b ≢ c →
     first ≡ weight_of old a b → second ≡ weight_of old a c → third ≡ weight_of old b c →
     (are_apart s (slice_index groups b) (slice_index groups c) ≡ true) ⊎ (weight_of old b c <ℤ pos 0) →
@@ -65,7 +65,7 @@ tried s groups old new rows rows' row a b c u v w n first second third y rise p 
     let near = for_near third rise n (are_apart s (slice_index groups b) (slice_index groups c) ≡ true) ready in
     let ch' : Changed old new a b c (pos n) rise = subst (λ k. Changed old new a b c k rise) yn ch in
     record {
-      packed = subst (Packed s groups new) (sym (er ∙ ap (λ t. rows ++ t ∷ []) (et ∙ ap (λ k. triangle k v w n) eu ∙ ap (λ k. triangle (slice_index groups a) k w n) ev ∙ ap (λ k. triangle (slice_index groups a) (slice_index groups b) k n) ew)))
+      packed = subst (IsLeftTable s groups new) (sym (er ∙ ap (λ t. rows ++ t ∷ []) (et ∙ ap (λ k. triangle k v w n) eu ∙ ap (λ k. triangle (slice_index groups a) k w n) ev ∙ ap (λ k. triangle (slice_index groups a) (slice_index groups b) k n) ew)))
           (packed_next s groups old new rows a b c n rise p la lb lc ab ac bc (omega (arith, ints, py, yn)) (omega (arith, ints, yn, yf, e1)) (omega (arith, ints, yn, ys, e2))
           (⊎_elim inl (λ h. inr ((let k = h.0 in omega (arith, ints, k, e3)), h.1)) ready) ch');
       nearer = nearer_step old new a b c y rise (omega (arith, ints, py)) (omega (arith, ints, yf, e1)) (omega (arith, ints, ys, e2)) (⊎_elim inl (λ h. let k = h.1 in inr (h.0, omega (arith, ints, k, e3))) near) ch;
@@ -82,7 +82,7 @@ tried s groups old new rows rows' row a b c u v w n first second third y rise p 
     }
 
 -- the same, where numbers stand as their bits
-pub tried_bits : (s : State) (groups : List ℕ) (old new : Pairs) (rows rows' : List TwoSet) (row : TwoSet) (a b c u v w n : ℕ) (first second third y rise first' second' third' y' rise' : ℤ) → Packed s groups old rows →
+pub tried_bits : (s : State) (groups : List ℕ) (old new : Pairs) (rows rows' : List TwoSet) (row : TwoSet) (a b c u v w n : ℕ) (first second third y rise first' second' third' y' rise' : ℤ) → IsLeftTable s groups old rows →
     a < length groups → b < length groups → c < length groups → a ≢ b → a ≢ c → b ≢ c →
     first' ≡ first → second' ≡ second → third' ≡ third → y' ≡ y → rise' ≡ rise →
     first ≡ weight_of old a b → second ≡ weight_of old a c → third ≡ weight_of old b c →
@@ -100,7 +100,7 @@ tried_bits s groups old new rows rows' row a b c u v w n first second third y ri
     (subst (λ k. Changed old new a b c k rise) wy (subst (λ k. Changed old new a b c y' k) wr ch))
     er et eu ev ew yn
 
-pub rise_bits : (s : State) (groups : List ℕ) (old : Pairs) (rows : List TwoSet) (b c : ℕ) (third y rise third' y' rise' : ℤ) → Packed s groups old rows → b < length groups → c < length groups → b ≢ c →
+pub rise_bits : (s : State) (groups : List ℕ) (old : Pairs) (rows : List TwoSet) (b c : ℕ) (third y rise third' y' rise' : ℤ) → IsLeftTable s groups old rows → b < length groups → c < length groups → b ≢ c →
     third' ≡ third → y' ≡ y → rise' ≡ rise → third ≡ weight_of old b c → pos 0 <ℤ y →
     (third' <ℤ pos 0 → third' ≤ℤ neg_ℤ y) → (third' <ℤ pos 0 → rise ≡ y') → (pos 0 ≤ℤ third' → rise ≡ pos 0) → (rise' ≡ pos 0) ⊎ ((pos 0 ≤ℤ rise') × (weight_of old b c ≤ℤ neg_ℤ rise'))
 rise_bits s groups old rows b c third y rise third' y' rise' p lb lc d wt wy wr e py m k i =

@@ -12,20 +12,20 @@ pub record IsRow (s : State) (r : TwoSet) : Type 0 where
   pub once : NamesOnce (leader s) (r.s ++ r.t)
   pub worth : 0 < r.y
 
-abbrev pub worth_of : List TwoSet → ℕ
-worth_of rows = sum_by (λ r. r.y * (length r.s + length r.t) ^ 2) rows
+abbrev pub rows_mass : List TwoSet → ℕ
+rows_mass rows = sum_by (λ r. r.y * (length r.s + length r.t) ^ 2) rows
 
 -- rows without a fault
 pub record AreRows (s : State) (rows : List TwoSet) : Type 0 where
   pub each : All (IsRow s) rows
-  pub small : worth_of rows ≤ 2 ^ 120
+  pub small : rows_mass rows ≤ 2 ^ 120
 
 -- a denominator that a leaf may have
 abbrev pub IsDenominator : ℕ → Type 0
 IsDenominator den = (0 < den) × (den ≤ 2 ^ 32)
 
 -- the first row with which the rows have a fault, counted from 1
-pub record IsFirstFault (s : State) (rows : List TwoSet) (row : ℕ) : Type 0 where
+pub record IsFirstBadRow (s : State) (rows : List TwoSet) (row : ℕ) : Type 0 where
   pub counted : (0 < row) × (row ≤ length rows)
   pub before : (k : ℕ) → k < row → AreRows s (take k rows)
   pub at' : AreRows s (take row rows) → ⊥

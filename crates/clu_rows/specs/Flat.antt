@@ -9,9 +9,9 @@ rows_from vertices start [] = []
 rows_from vertices start (e ∷ es) = record { s = slice_range vertices start e.middle; t = slice_range vertices e.middle e.end; y = e.y } ∷ rows_from vertices e.end es
 
 -- the ends rise from a place of a list up to its length
-abbrev pub AreEnds : ℕ → ℕ → List RowEnd → Type 0
-AreEnds start size [] = start ≡ size
-AreEnds start size (e ∷ es) = (start ≤ e.middle) × (e.middle ≤ e.end) × AreEnds e.end size es
+abbrev pub AreRowEnds : ℕ → ℕ → List RowEnd → Type 0
+AreRowEnds start size [] = start ≡ size
+AreRowEnds start size (e ∷ es) = (start ≤ e.middle) × (e.middle ≤ e.end) × AreRowEnds e.end size es
 
 -- where the row at a place begins
 abbrev pub start_at : ℕ → List RowEnd → ℕ → ℕ

@@ -7,13 +7,13 @@ use Rattle.clu_partition.specs.Pairs.{weight_of}
 use Rattle.clu_state.specs.State.{State, leader, are_apart}
 
 -- 1 where the two share a block, else 0
-abbrev pub joined : (ℕ → ℕ) → ℕ → ℕ → ℤ
-joined label a b = only_if (label a == label b) (pos 1)
+abbrev pub indicator : (ℕ → ℕ) → ℕ → ℕ → ℤ
+indicator label a b = only_if (label a == label b) (pos 1)
 
 -- the two-set inequality for a partition: of the pairs that share a block, those across s and t are more than those inside s
 -- and inside t by the smaller size at most
 abbrev pub TwoSetHolds : (ℕ → ℕ) → List ℕ → List ℕ → Type 0
-TwoSetHolds label s t = cross_total (joined label) s t ≤ℤ (pair_total (joined label) s +ℤ pair_total (joined label) t +ℤ pos (min (length s) (length t)))
+TwoSetHolds label s t = cross_total (indicator label) s t ≤ℤ (pair_total (indicator label) s +ℤ pair_total (indicator label) t +ℤ pos (min (length s) (length t)))
 
 -- a row (S, T, y): two lists of vertices, each of which names its group, and a multiplier
 pub record TwoSet : Type 0 where
@@ -22,16 +22,16 @@ pub record TwoSet : Type 0 where
   pub y : ℕ
 
 -- whether a vertex of the list names the group a
-abbrev pub names : (ℕ → ℕ) → List ℕ → ℕ → Bool
-names group [] a = false
-names group (v ∷ vs) a = (group v == a) || names group vs a
+abbrev pub names_group : (ℕ → ℕ) → List ℕ → ℕ → Bool
+names_group group [] a = false
+names_group group (v ∷ vs) a = (group v == a) || names_group group vs a
 
 -- 1 across, -1 inside, 0 else: by whether a is in S and in T, and whether b is
 abbrev pub sign : Bool → Bool → Bool → Bool → ℤ
 sign sa ta sb tb = if sa && tb || ta && sb then pos 1 else (if sa && sb || ta && tb then negsuc 0 else pos 0)
 
 abbrev pub coefficient : (ℕ → ℕ) → TwoSet → ℕ → ℕ → ℤ
-coefficient group r a b = sign (names group r.s a) (names group r.t a) (names group r.s b) (names group r.t b)
+coefficient group r a b = sign (names_group group r.s a) (names_group group r.t a) (names_group group r.s b) (names_group group r.t b)
 
 -- q: the rows' coefficients at a pair of groups, each times its multiplier
 abbrev pub priced : (ℕ → ℕ) → List TwoSet → ℕ → ℕ → ℤ

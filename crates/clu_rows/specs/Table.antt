@@ -9,7 +9,7 @@ use Rattle.clu_rows.specs.declared.near.NearLists.{NearLists}
 use Rattle.clu_rows.specs.declared.packing.Packing.{Packing}
 
 -- the groups, what the rows leave of each free pair of them, and 0 at each other pair; room beyond them isn't used
-pub record Packed (s : State) (groups : List ℕ) (left : Pairs) (rows : List TwoSet) : Type 0 where
+pub record IsLeftTable (s : State) (groups : List ℕ) (left : Pairs) (rows : List TwoSet) : Type 0 where
   pub state : IsState s
   pub groups_are : groups ≡ group_leaders s
   pub size : length groups ≤ left.n
@@ -18,8 +18,8 @@ pub record Packed (s : State) (groups : List ℕ) (left : Pairs) (rows : List Tw
   pub packing : IsPacking s rows
 
 -- the table and the rows of a packing agree
-abbrev pub HasPacked : State → List ℕ → Packing → Type 0
-HasPacked s groups packing = Packed s groups packing.left packing.rows
+abbrev pub HasLeftTable : State → List ℕ → Packing → Type 0
+HasLeftTable s groups packing = IsLeftTable s groups packing.left packing.rows
 
 -- its table has as much room as before
 abbrev pub SameRoom : Packing → Packing → Type 0
@@ -37,13 +37,13 @@ pub record Changed (old new : Pairs) (a b c : ℕ) (y d : ℤ) : Type 0 where
   pub others : (x z : ℕ) → x < old.n → z < old.n → (SamePair a b x z → ⊥) → (SamePair a c x z → ⊥) → (SamePair b c x z → ⊥) → weight_of new x z ≡ weight_of old x z
 
 -- no number has passed 0 or left it
-abbrev pub Nearer : Pairs → Pairs → Type 0
-Nearer old new = (x z : ℕ) → x < old.n → z < old.n → (pos 0 <ℤ weight_of new x z → pos 0 <ℤ weight_of old x z) × (weight_of new x z <ℤ pos 0 → weight_of old x z <ℤ pos 0)
+abbrev pub NearerZero : Pairs → Pairs → Type 0
+NearerZero old new = (x z : ℕ) → x < old.n → z < old.n → (pos 0 <ℤ weight_of new x z → pos 0 <ℤ weight_of old x z) × (weight_of new x z <ℤ pos 0 → weight_of old x z <ℤ pos 0)
 
 -- a packing still, in which no number has passed 0 or left it
-pub record StepsTo (s : State) (groups : List ℕ) (old new : Packing) : Type 0 where
-  pub packed : HasPacked s groups new
-  pub nearer : Nearer old.left new.left
+pub record KeepsPacking (s : State) (groups : List ℕ) (old new : Packing) : Type 0 where
+  pub packed : HasLeftTable s groups new
+  pub nearer : NearerZero old.left new.left
 
 -- no triangle with the centre at place a and the others at b and c is left
 abbrev pub Stuck : State → List ℕ → Pairs → ℕ → ℕ → ℕ → Type 0
@@ -51,7 +51,7 @@ Stuck s groups left a b c = pos 0 <ℤ weight_of left a b → pos 0 <ℤ weight_
     (are_apart s (slice_index groups b) (slice_index groups c) ≡ true) ⊎ (weight_of left b c <ℤ pos 0) → ⊥
 
 -- none with any of the three as its centre
-pub record Settled (s : State) (groups : List ℕ) (left : Pairs) (a b c : ℕ) : Type 0 where
+pub record AllStuck (s : State) (groups : List ℕ) (left : Pairs) (a b c : ℕ) : Type 0 where
   pub at_first : Stuck s groups left a b c
   pub at_second : Stuck s groups left b a c
   pub at_third : Stuck s groups left c a b

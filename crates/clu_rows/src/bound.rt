@@ -8,7 +8,7 @@ ghost use Rattle.clu_partition.specs.Pairs.{weight_of};
 ghost use Rattle.clu_state.specs.State.{IsState, InClass, leader};
 ghost use Rattle.clu_rows.specs.Rows.{row_limit as row_limit_of, leaf_bound_of};
 ghost use Rattle.clu_rows.specs.Prices.{uncovered as uncovered_of, uncovered_with as uncovered_with_of, uncovered_all};
-ghost use Rattle.clu_rows.specs.Faults.{AreRows, IsDenominator, IsFirstFault, worth_of};
+ghost use Rattle.clu_rows.specs.Faults.{AreRows, IsDenominator, IsFirstBadRow, rows_mass};
 
 use crate::faults::first_fault;
 use crate::prices::{add_rows, clear};
@@ -37,7 +37,7 @@ pub fn leaf_bound<S: Situation>(
     ensures rows { IfOk result (λ _. AreRows (S.state state.now) leaf.now.rows) }
     ensures den_fault { IsErrOf result LeafFault.Den → IsDenominator leaf.now.den → ⊥ }
     ensures row_fault { (row : ℕ) → IsErrOf result (LeafFault.Row row)
-        → IsDenominator leaf.now.den × IsFirstFault (S.state state.now) leaf.now.rows row }
+        → IsDenominator leaf.now.den × IsFirstBadRow (S.state state.now) leaf.now.rows row }
     ensures room { scratch.new.n ≡ scratch.old.n }
     ensures kept { OnErr result (scratch.new ≡ scratch.old) }
 {
@@ -52,7 +52,7 @@ pub fn leaf_bound<S: Situation>(
 
 /// The multipliers times the rows' right sides.
 pub(crate) fn row_limit(rows: &Rows) -> u128
-    requires { worth_of rows.now ≤ 2 ^ 120 }
+    requires { rows_mass rows.now ≤ 2 ^ 120 }
     ensures { pos result ≡ row_limit_of rows.now }
 {
     let mut sum = 0;

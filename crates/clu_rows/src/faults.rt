@@ -4,7 +4,7 @@
 ghost use Rattle.std.specs.Prelude.{◌≡◌, ◌≢◌, ◌↔◌, ◌<◌, ◌≤◌, ◌+◌, ◌*◌, ◌^◌, ◌++◌, ℕ, List, All, Contains, IsTrue, IfSome, IsNone, length};
 ghost use Rattle.clu_state.specs.State.{IsState, leader};
 ghost use Rattle.clu_partition.specs.Groups.{NamesOnce};
-ghost use Rattle.clu_rows.specs.Faults.{IsRow, AreRows, IsFirstFault};
+ghost use Rattle.clu_rows.specs.Faults.{IsRow, AreRows, IsFirstBadRow};
 
 use crate::row::Row;
 use crate::rows::Rows;
@@ -17,7 +17,7 @@ const LIMIT: u128 = 1 << 120;
 
 /// The first row with which the rows have a fault, counted from 1.
 pub fn first_fault<S: Situation>(state: &S, rows: &Rows) -> Option<u64>
-    ensures some { IfSome result (IsFirstFault (S.state state.now) rows.now) }
+    ensures some { IfSome result (IsFirstBadRow (S.state state.now) rows.now) }
     ensures none { IsNone result → AreRows (S.state state.now) rows.now }
 {
     let mut room = LIMIT;

@@ -4,7 +4,7 @@ ghost use Rattle.std.specs.Prelude.{◌≡◌, ◌≢◌, ◌<◌, ◌≤◌, �
 ghost use Rattle.clu_partition.specs.Pairs.{weight_of};
 ghost use Rattle.clu_partition.specs.Sums.{only_if};
 ghost use Rattle.clu_state.specs.State.{IsState, are_apart, group_leaders, group_weight};
-ghost use Rattle.clu_rows.specs.Table.{Packed};
+ghost use Rattle.clu_rows.specs.Table.{IsLeftTable};
 
 use clu_partition::{Place, Residual, Vertex};
 use clu_state::Situation;
@@ -15,7 +15,7 @@ pub(crate) fn fill<S: Situation>(state: &S, groups: &[Vertex], left: &mut Residu
     requires valid { IsState (S.state state.now) }
     requires leaders { groups.now ≡ group_leaders (S.state state.now) }
     ensures room { left.new.n ≡ left.old.n }
-    ensures packed { Packed (S.state state.now) groups.now left.new [] }
+    ensures packed { IsLeftTable (S.state state.now) groups.now left.new [] }
 {
     for i in 0..groups.len() {
         fill_row(state, groups, left, i);

@@ -9,7 +9,7 @@ ghost use Rattle.clu_state.specs.State.{State, InClass};
 ghost use Rattle.clu_rows.specs.Rows.{leaf_bound_of};
 ghost use Rattle.clu_rows.specs.Packing.{IsPacking, IsMaximal, excess_of};
 ghost use Rattle.clu_rows.specs.Faults.{AreRows};
-ghost use Rattle.clu_rows.specs.Table.{HasPacked};
+ghost use Rattle.clu_rows.specs.Table.{HasLeftTable};
 
 use crate::bound::row_limit;
 use crate::filling::fill;
@@ -99,7 +99,7 @@ impl Scratch {
 impl Packing {
     /// The bound of the packing, from its own table.
     fn bound<S: Situation>(&self, state: &S, groups: &[Vertex]) -> i128
-        requires { HasPacked (S.state state.now) groups.now self.now }
+        requires { HasLeftTable (S.state state.now) groups.now self.now }
         ensures { result ≡ leaf_bound_of (S.state state.now) 1 self.now.rows }
     {
         let covered = row_limit(&self.rows) as i128;
@@ -109,8 +109,8 @@ impl Packing {
 
     /// What is left above 0 of all pairs of groups.
     fn excess(&self, groups: &[Vertex]) -> i128
-        requires { (s : State) × HasPacked s groups.now self.now }
-        ensures { (s : State) → HasPacked s groups.now self.now → result ≡ excess_of s self.now.rows }
+        requires { (s : State) × HasLeftTable s groups.now self.now }
+        ensures { (s : State) → HasLeftTable s groups.now self.now → result ≡ excess_of s self.now.rows }
     {
         pair_sum(groups.len() as u32, |i, j| above_zero(&self.left, i, j))
     }

@@ -5,7 +5,7 @@ ghost use Rattle.std.specs.Prelude.{◌≡◌, ◌≢◌, ◌⊎◌, ◌↔◌, 
 ghost use Rattle.clu_partition.specs.Pairs.{weight_of};
 ghost use Rattle.clu_state.specs.State.{are_apart};
 ghost use Rattle.clu_rows.specs.Rows.{TwoSet};
-ghost use Rattle.clu_rows.specs.Table.{Packed, HasPacked, SameRoom, StepsTo, Changed, Settled, Allied, AreAllNear};
+ghost use Rattle.clu_rows.specs.Table.{IsLeftTable, HasLeftTable, SameRoom, KeepsPacking, Changed, AllStuck, Allied, AreAllNear};
 
 use crate::near::NearLists;
 use crate::rows::Rows;
@@ -29,11 +29,11 @@ impl Packing {
         near: &NearLists,
     ) -> Result<(), AllocError>
         requires near { AreAllNear self.old.left (length groups.now) near.now }
-        requires packed { HasPacked (S.state state.now) groups.now self.old }
+        requires packed { HasLeftTable (S.state state.now) groups.now self.old }
         ensures room { SameRoom self.old self.new }
-        ensures packed { OnOk result (HasPacked (S.state state.now) groups.now self.new) }
+        ensures packed { OnOk result (HasLeftTable (S.state state.now) groups.now self.new) }
         ensures settled { OnOk result ((x y z : ℕ) → x < y → y < z → z < length groups.now
-            → Settled (S.state state.now) groups.now self.new.left x y z) }
+            → AllStuck (S.state state.now) groups.now self.new.left x y z) }
     {
         for i in 0..groups.len() {
             self.visit_first(state, groups, near, i)?;
@@ -51,11 +51,11 @@ impl Packing {
     ) -> Result<(), AllocError>
         requires i { i < length groups.now }
         requires near { AreAllNear self.old.left (length groups.now) near.now }
-        requires packed { HasPacked (S.state state.now) groups.now self.old }
+        requires packed { HasLeftTable (S.state state.now) groups.now self.old }
         ensures room { SameRoom self.old self.new }
-        ensures step { OnOk result (StepsTo (S.state state.now) groups.now self.old self.new) }
+        ensures step { OnOk result (KeepsPacking (S.state state.now) groups.now self.old self.new) }
         ensures settled { OnOk result ((y z : ℕ) → i < y → y < z → z < length groups.now
-            → Settled (S.state state.now) groups.now self.new.left i y z) }
+            → AllStuck (S.state state.now) groups.now self.new.left i y z) }
     {
         for j in i + 1..groups.len() {
             self.visit_pair(state, groups, near, i, j)?;
@@ -76,11 +76,11 @@ impl Packing {
         requires ij { i < j }
         requires j { j < length groups.now }
         requires near { AreAllNear self.old.left (length groups.now) near.now }
-        requires packed { HasPacked (S.state state.now) groups.now self.old }
+        requires packed { HasLeftTable (S.state state.now) groups.now self.old }
         ensures room { SameRoom self.old self.new }
-        ensures step { OnOk result (StepsTo (S.state state.now) groups.now self.old self.new) }
+        ensures step { OnOk result (KeepsPacking (S.state state.now) groups.now self.old self.new) }
         ensures settled { OnOk result ((z : ℕ) → j < z → z < length groups.now
-            → Settled (S.state state.now) groups.now self.new.left i j z) }
+            → AllStuck (S.state state.now) groups.now self.new.left i j z) }
     {
         if self.left.get(Place(i), Place(j)) > 0 {
             self.visit_each_third(state, groups, i, j)?;
@@ -104,11 +104,11 @@ impl Packing {
         requires j { j < length groups.now }
         requires idle { weight_of self.old.left i j ≤ℤ pos 0 }
         requires near { AreAllNear self.old.left (length groups.now) near.now }
-        requires packed { HasPacked (S.state state.now) groups.now self.old }
+        requires packed { HasLeftTable (S.state state.now) groups.now self.old }
         ensures room { SameRoom self.old self.new }
-        ensures step { OnOk result (StepsTo (S.state state.now) groups.now self.old self.new) }
+        ensures step { OnOk result (KeepsPacking (S.state state.now) groups.now self.old self.new) }
         ensures settled { OnOk result ((z : ℕ) → j < z → z < length groups.now
-            → Settled (S.state state.now) groups.now self.new.left i j z) }
+            → AllStuck (S.state state.now) groups.now self.new.left i j z) }
     {
         let thirds = near.of(j);
         for k in thirds {
@@ -130,10 +130,10 @@ impl Packing {
         requires jk { j < k }
         requires k { k < length groups.now }
         requires idle { weight_of self.old.left i j ≤ℤ pos 0 }
-        requires packed { HasPacked (S.state state.now) groups.now self.old }
+        requires packed { HasLeftTable (S.state state.now) groups.now self.old }
         ensures room { SameRoom self.old self.new }
-        ensures step { OnOk result (StepsTo (S.state state.now) groups.now self.old self.new) }
-        ensures settled { OnOk result (Settled (S.state state.now) groups.now self.new.left i j k) }
+        ensures step { OnOk result (KeepsPacking (S.state state.now) groups.now self.old self.new) }
+        ensures settled { OnOk result (AllStuck (S.state state.now) groups.now self.new.left i j k) }
     {
         if self.left.get(Place(i), Place(k)) <= 0 {
             return Ok(());
@@ -152,11 +152,11 @@ impl Packing {
         requires ij { i < j }
         requires j { j < length groups.now }
         requires allied { Allied (S.state state.now) groups.now self.old.left i j }
-        requires packed { HasPacked (S.state state.now) groups.now self.old }
+        requires packed { HasLeftTable (S.state state.now) groups.now self.old }
         ensures room { SameRoom self.old self.new }
-        ensures step { OnOk result (StepsTo (S.state state.now) groups.now self.old self.new) }
+        ensures step { OnOk result (KeepsPacking (S.state state.now) groups.now self.old self.new) }
         ensures settled { OnOk result ((z : ℕ) → j < z → z < length groups.now
-            → Settled (S.state state.now) groups.now self.new.left i j z) }
+            → AllStuck (S.state state.now) groups.now self.new.left i j z) }
     {
         for k in j + 1..groups.len() {
             self.visit_third(state, groups, i, j, k)?;
@@ -178,10 +178,10 @@ impl Packing {
         requires jk { j < k }
         requires k { k < length groups.now }
         requires allied { Allied (S.state state.now) groups.now self.old.left i j }
-        requires packed { HasPacked (S.state state.now) groups.now self.old }
+        requires packed { HasLeftTable (S.state state.now) groups.now self.old }
         ensures room { SameRoom self.old self.new }
-        ensures step { OnOk result (StepsTo (S.state state.now) groups.now self.old self.new) }
-        ensures settled { OnOk result (Settled (S.state state.now) groups.now self.new.left i j k) }
+        ensures step { OnOk result (KeepsPacking (S.state state.now) groups.now self.old self.new) }
+        ensures settled { OnOk result (AllStuck (S.state state.now) groups.now self.new.left i j k) }
     {
         let first = self.left.get(Place(i), Place(k));
         let second = self.left.get(Place(j), Place(k));
@@ -205,10 +205,10 @@ impl Packing {
         requires ij { i < j }
         requires jk { j < k }
         requires k { k < length groups.now }
-        requires packed { HasPacked (S.state state.now) groups.now self.old }
+        requires packed { HasLeftTable (S.state state.now) groups.now self.old }
         ensures room { SameRoom self.old self.new }
-        ensures step { OnOk result (StepsTo (S.state state.now) groups.now self.old self.new) }
-        ensures settled { OnOk result (Settled (S.state state.now) groups.now self.new.left i j k) }
+        ensures step { OnOk result (KeepsPacking (S.state state.now) groups.now self.old self.new) }
+        ensures settled { OnOk result (AllStuck (S.state state.now) groups.now self.new.left i j k) }
     {
         if self.left.get(Place(j), Place(k)) <= 0 {
             return self.try_triangle(state, groups, i, j, k);
@@ -238,10 +238,10 @@ impl Packing {
         requires ac { a ≢ c }
         requires bc { b ≢ c }
         requires third { weight_of self.old.left b c ≤ℤ pos 0 }
-        requires packed { HasPacked (S.state state.now) groups.now self.old }
+        requires packed { HasLeftTable (S.state state.now) groups.now self.old }
         ensures room { SameRoom self.old self.new }
-        ensures step { OnOk result (StepsTo (S.state state.now) groups.now self.old self.new) }
-        ensures settled { OnOk result (Settled (S.state state.now) groups.now self.new.left a b c) }
+        ensures step { OnOk result (KeepsPacking (S.state state.now) groups.now self.old self.new) }
+        ensures settled { OnOk result (AllStuck (S.state state.now) groups.now self.new.left a b c) }
     {
         let first = self.left.get(Place(a), Place(b));
         let second = self.left.get(Place(a), Place(c));
@@ -266,7 +266,7 @@ fn opposes<S: Situation>(state: &S, groups: &[Vertex], left: &Residual, b: usize
     requires b { b < length groups.now }
     requires c { c < length groups.now }
     requires bc { b ≢ c }
-    requires some { (rows : List TwoSet) × Packed (S.state state.now) groups.now left.now rows }
+    requires some { (rows : List TwoSet) × IsLeftTable (S.state state.now) groups.now left.now rows }
     ensures { IsTrue result ↔ ((are_apart (S.state state.now) (slice_index groups.now b)
         (slice_index groups.now c) ≡ true) ⊎ (weight_of left.now b c <ℤ pos 0)) }
 {

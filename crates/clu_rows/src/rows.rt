@@ -3,7 +3,7 @@
 
 ghost use Rattle.std.specs.Prelude.{◌≡◌, ◌<◌, ◌≤◌, ◌+◌, ◌++◌, ◌∷◌, [], IfOk, OnOk, OnErr, length, slice_index_or, slice_range, vec_len, vec_capacity};
 ghost use Rattle.clu_rows.specs.Rows.{TwoSet};
-ghost use Rattle.clu_rows.specs.Flat.{rows_from, AreEnds, start_at};
+ghost use Rattle.clu_rows.specs.Flat.{rows_from, AreRowEnds, start_at};
 
 use crate::row::Row;
 use clu_partition::Vertex;
@@ -28,13 +28,13 @@ struct RowEnd {
 impl Model for Rows {
     ghost use Rattle.std.specs.Prelude.{List, length};
     ghost use Rattle.clu_rows.specs.Rows.{TwoSet};
-    ghost use Rattle.clu_rows.specs.Flat.{rows_from, AreEnds};
+    ghost use Rattle.clu_rows.specs.Flat.{rows_from, AreRowEnds};
 
     ghost Value = { List TwoSet };
 
     ghost view = { λ r. rows_from r.vertices.items 0 r.ends.items };
 
-    ghost invariant = { λ r. AreEnds 0 (length r.vertices.items) r.ends.items };
+    ghost invariant = { λ r. AreRowEnds 0 (length r.vertices.items) r.ends.items };
 }
 
 impl Rows {
@@ -116,7 +116,7 @@ fn start_of(ends: &[RowEnd], i: usize) -> usize
 
 /// The row at the place.
 fn row_at<'a>(vertices: &'a [Vertex], ends: &[RowEnd], i: usize) -> Row<'a>
-    requires ends { AreEnds 0 (length vertices.now) ends.now }
+    requires ends { AreRowEnds 0 (length vertices.now) ends.now }
     requires i { i < length ends.now }
     ensures { (default : TwoSet) → result ≡ slice_index_or (rows_from vertices.now 0 ends.now) i default }
 {

@@ -8,7 +8,7 @@ use Rattle.clu_partition.specs.Closed.{Precedes, AreRising}
 use Rattle.clu_partition.proofs.JoinLaws.{front_or_rest}
 use Rattle.clu_partition.proofs.SearchLaws.{irreflexive, asymmetric}
 use Rattle.clu_rules.specs.Lines.{Rule}
-use Rattle.clu_rules.specs.Reading.{Reads, AreRules}
+use Rattle.clu_rules.specs.Reading.{ReadsRules, AreRules}
 use Rattle.clu_rules.specs.Rules.{IsListOf, Requires, Forbids}
 use Rattle.clu_rules.proofs.FormLaws.{adds_once}
 
@@ -36,7 +36,7 @@ list_once n R xs ys a b = rising_same xs ys a.listed.rising b.listed.rising
     (λ p c. a.each p.0 p.1 (All-contains (λ q. (q.0 ≤ q.1) × (q.1 < n)) ys p b.listed.ordered c).0 (b.only p.0 p.1 c))
 
 module _ (named : List ℕ → ℕ → Type 0) (one : (name : List ℕ) (u v : ℕ) → named name u → named name v → u ≡ v) where
-  reads_once : (lines : List (ℕ × List ℕ)) (earlier rules others : List Rule) → Reads named lines earlier rules → Reads named lines earlier others → rules ≡ others
+  reads_once : (lines : List (ℕ × List ℕ)) (earlier rules others : List Rule) → ReadsRules named lines earlier rules → ReadsRules named lines earlier others → rules ≡ others
   reads_once [] earlier rules others r s = sym r ∙ s
   reads_once (line ∷ lines) earlier rules others r s = ⊎_elim
       (λ p. ⊎_elim
@@ -45,7 +45,7 @@ module _ (named : List ℕ → ℕ → Type 0) (one : (name : List ℕ) (u v : �
       (λ p. ⊎_elim
       (λ q. absurd (true≢false (sym p.1.kept ∙ q.0)))
       (λ q. reads_once lines (earlier ++ p.0 ∷ []) rules others p.2
-      (subst (λ (x : Rule). Reads named lines (earlier ++ x ∷ []) others) (adds_once named one earlier line.1 q.0 p.0 q.1 p.1) q.2)) s)
+      (subst (λ (x : Rule). ReadsRules named lines (earlier ++ x ∷ []) others) (adds_once named one earlier line.1 q.0 p.0 q.1 p.1) q.2)) s)
       r
 
   pub one_reading : (n : ℕ) (bytes : List ℕ) (required forbidden required' forbidden' : List (ℕ × ℕ)) → AreRules n named bytes required forbidden → AreRules n named bytes required' forbidden'

@@ -6,10 +6,10 @@ use Rattle.std.proofs.lemmas.List.Elements.{All-contains, Contains-append_left, 
 use Rattle.clu_partition.specs.PairSets.{Chosen, has, IsListed}
 use Rattle.clu_partition.proofs.GridLaws.{value_sym}
 use Rattle.clu_partition.proofs.StartLaws.{all_from, map_from, map_to}
-use Rattle.clu_rules.specs.Lines.{Rule, rule_of, tied, parted, valued, shared, differing, alike}
+use Rattle.clu_rules.specs.Lines.{Rule, as_rule, tied, parted, valued, shared, differing, alike}
 use Rattle.clu_rules.specs.declared.rule.Rule.{Rule as Found}
 use Rattle.clu_rules.specs.Puts.{Puts, Any, ClashIn, AreValues, OfKey, IsBelow}
-use Rattle.clu_rules.specs.Rules.{HasValue, IsListOf, Ties, Parts}
+use Rattle.clu_rules.specs.Rules.{HasAttribute, IsListOf, RuleRequires, RuleForbids}
 use Rattle.clu_rules.specs.declared.values.Value.{Value}
 use Rattle.clu_rules.proofs.PutLaws.{puts_as}
 
@@ -45,8 +45,8 @@ of_key true rules key values old new m p = puts_as (λ u v. Any (ClashIn true va
       (λ e. h.2.0 (sym h.0 ∙ e ∙ h.1)),
       (
         a.value.now,
-        subst (λ (x : ℕ). HasValue rules key x a.value.now) (sym h.0) (m.only a w.1),
-        subst (λ (x : ℕ). HasValue rules key x a.value.now) (sym h.1) (subst (λ (y : List ℕ). HasValue rules key b.vertex y) (sym h.2.1) (m.only b t.1)),
+        subst (λ (x : ℕ). HasAttribute rules key x a.value.now) (sym h.0) (m.only a w.1),
+        subst (λ (x : ℕ). HasAttribute rules key x a.value.now) (sym h.1) (subst (λ (y : List ℕ). HasAttribute rules key b.vertex y) (sym h.2.1) (m.only b t.1)),
       ),
     ))
     (λ u v w. let a = m.each u w.1.0 w.1.1 in let b = m.each v w.1.0 w.1.2 in
@@ -56,8 +56,8 @@ of_key false rules key values old new m p = puts_as (λ u v. Any (ClashIn false 
     (λ u v w. let a = w.0 in let t = w.2 in let b = t.0 in let h = t.2 in (
       a.value.now,
       b.value.now,
-      subst (λ (x : ℕ). HasValue rules key x a.value.now) (sym h.0) (m.only a w.1),
-      subst (λ (x : ℕ). HasValue rules key x b.value.now) (sym h.1) (m.only b t.1),
+      subst (λ (x : ℕ). HasAttribute rules key x a.value.now) (sym h.0) (m.only a w.1),
+      subst (λ (x : ℕ). HasAttribute rules key x b.value.now) (sym h.1) (m.only b t.1),
       h.2,
     ))
     (λ u v w. let a = m.each u w.0 w.2 in let b = m.each v w.1 w.3 in
@@ -69,14 +69,14 @@ values_below n rules key values all m = all_from (λ a. a.vertex < n) values (λ
 
 -- one rule more read for values
 pub values_next : (rules : List Found) (i : ℕ) (rule : Found) (key : List ℕ) (values : List Value) → i < length rules → rule ≡ get_or rules i rule
-    → AreValues (map rule_of (take i rules) ++ rule_of rule ∷ []) key values → AreValues (map rule_of (take (i + 1) rules)) key values
+    → AreValues (map as_rule (take i rules) ++ as_rule rule ∷ []) key values → AreValues (map as_rule (take (i + 1) rules)) key values
 values_next rules i rule key values l there m = subst (λ (rs : List Rule). AreValues rs key values)
-    (sym (ap (map rule_of) (take_more rules i rule l ∙ ap (λ (r : Found). take i rules ++ r ∷ []) (sym there)) ∙ map-append rule_of (take i rules) (rule ∷ []))) m
+    (sym (ap (map as_rule) (take_more rules i rule l ∙ ap (λ (r : Found). take i rules ++ r ∷ []) (sym there)) ∙ map-append as_rule (take i rules) (rule ∷ []))) m
 
 -- ---- the list of all pairs
-pub list_of : (n : ℕ) (rules : List Rule) (found : List Found) (S : List Rule → Rule → ℕ → ℕ → Type 0) (empty set : Chosen) (list : List (ℕ × ℕ)) → rules ≡ map rule_of found
+pub list_of : (n : ℕ) (rules : List Rule) (found : List Found) (S : List Rule → Rule → ℕ → ℕ → Type 0) (empty set : Chosen) (list : List (ℕ × ℕ)) → rules ≡ map as_rule found
     → empty.n ≡ n → ((u v : ℕ) → has empty u v ≡ false) → All (IsBelow n) rules → ((rule : Rule) (u v : ℕ) → Contains rules rule → S rules rule u v → (u < n) × (v < n))
-    → Puts (Any (λ rule. S rules (rule_of rule)) found) empty set → IsListed set list set.n set.n
+    → Puts (Any (λ rule. S rules (as_rule rule)) found) empty set → IsListed set list set.n set.n
     → IsListOf n (λ u v. (rule : Rule) × Contains rules rule × S rules rule u v) list
 list_of n rules found S empty set list e size none all within p m = record {
   listed = record { rising = m.rising; ordered = subst (λ (k : ℕ). All (λ q. (q.0 ≤ q.1) × (q.1 < k)) list) (p.size ∙ size) m.ordered };
@@ -97,21 +97,21 @@ list_of n rules found S empty set list e size none all within p m = record {
       w;
 }
   where
-    from : (u v : ℕ) → Any (λ rule. S rules (rule_of rule)) found u v → (rule : Rule) × Contains rules rule × S rules rule u v
-    from u v w = (rule_of w.0, subst (λ (rs : List Rule). Contains rs (rule_of w.0)) (sym e) (map_to rule_of found w.0 w.1), w.2)
+    from : (u v : ℕ) → Any (λ rule. S rules (as_rule rule)) found u v → (rule : Rule) × Contains rules rule × S rules rule u v
+    from u v w = (as_rule w.0, subst (λ (rs : List Rule). Contains rs (as_rule w.0)) (sym e) (map_to as_rule found w.0 w.1), w.2)
 
-    back_to : (u v : ℕ) → ((rule : Rule) × Contains rules rule × S rules rule u v) → Any (λ rule. S rules (rule_of rule)) found u v
+    back_to : (u v : ℕ) → ((rule : Rule) × Contains rules rule × S rules rule u v) → Any (λ rule. S rules (as_rule rule)) found u v
     back_to u v w =
-        let x = map_from rule_of found w.0 (subst (λ (rs : List Rule). Contains rs w.0) e w.1) in
+        let x = map_from as_rule found w.0 (subst (λ (rs : List Rule). Contains rs w.0) e w.1) in
         (x.0, x.1, subst (λ (r : Rule). S rules r u v) (sym x.2) w.2)
 
     turned : (u v : ℕ) → has set v u ≡ true → has set u v ≡ true
     turned u v h = value_sym set false u v ∙ h
 
-given_below : (n : ℕ) (rules : List Rule) (key : List ℕ) (v : ℕ) (value : List ℕ) → All (IsBelow n) rules → HasValue rules key v value → v < n
+given_below : (n : ℕ) (rules : List Rule) (key : List ℕ) (v : ℕ) (value : List ℕ) → All (IsBelow n) rules → HasAttribute rules key v value → v < n
 given_below n rules key v value all c = All-contains (IsBelow n) rules (valued v key value) all c
 
-pub ties_below : (n : ℕ) (rules : List Rule) → All (IsBelow n) rules → (rule : Rule) (u v : ℕ) → Contains rules rule → Ties rules rule u v → (u < n) × (v < n)
+pub ties_below : (n : ℕ) (rules : List Rule) → All (IsBelow n) rules → (rule : Rule) (u v : ℕ) → Contains rules rule → RuleRequires rules rule u v → (u < n) × (v < n)
 ties_below n rules all (tied a b) u v c t =
     let i = All-contains (IsBelow n) rules (tied a b) all c in
     (subst (λ (x : ℕ). x < n) (sym t.0) i.0, subst (λ (x : ℕ). x < n) (sym t.1) i.1)
@@ -121,7 +121,7 @@ ties_below n rules all (valued w key value) u v c t = absurd t
 ties_below n rules all (differing key) u v c t = absurd t
 ties_below n rules all (alike key) u v c t = absurd t
 
-pub parts_below : (n : ℕ) (rules : List Rule) → All (IsBelow n) rules → (rule : Rule) (u v : ℕ) → Contains rules rule → Parts rules rule u v → (u < n) × (v < n)
+pub parts_below : (n : ℕ) (rules : List Rule) → All (IsBelow n) rules → (rule : Rule) (u v : ℕ) → Contains rules rule → RuleForbids rules rule u v → (u < n) × (v < n)
 parts_below n rules all (parted a b) u v c t =
     let i = All-contains (IsBelow n) rules (parted a b) all c in
     (subst (λ (x : ℕ). x < n) (sym t.0) i.0, subst (λ (x : ℕ). x < n) (sym t.1) i.1)
@@ -131,6 +131,6 @@ parts_below n rules all (tied a b) u v c t = absurd t
 parts_below n rules all (valued w key value) u v c t = absurd t
 parts_below n rules all (shared key) u v c t = absurd t
 
-pub one_below : (n m : ℕ) (rules : List Found) (i : ℕ) (rule : Found) → All (IsBelow n) (map rule_of rules) → i < length rules → rule ≡ get_or rules i rule → m ≡ n → IsBelow m (rule_of rule)
-one_below n m rules i rule all l there e = subst (λ (k : ℕ). IsBelow k (rule_of rule)) (sym e)
-    (All-contains (IsBelow n) (map rule_of rules) (rule_of rule) all (map_to rule_of rules rule (i, l, sym there)))
+pub one_below : (n m : ℕ) (rules : List Found) (i : ℕ) (rule : Found) → All (IsBelow n) (map as_rule rules) → i < length rules → rule ≡ get_or rules i rule → m ≡ n → IsBelow m (as_rule rule)
+one_below n m rules i rule all l there e = subst (λ (k : ℕ). IsBelow k (as_rule rule)) (sym e)
+    (All-contains (IsBelow n) (map as_rule rules) (as_rule rule) all (map_to as_rule rules rule (i, l, sym there)))

@@ -1,8 +1,8 @@
 -- The pairs of rules as they are put into sets.
 use Rattle.std.specs.Prelude.{◌≡◌, ◌≢◌, ◌⊎◌, ℕ, ◌<◌, Bool, true, false, List, Contains}
 use Rattle.clu_partition.specs.PairSets.{Chosen, has}
-use Rattle.clu_rules.specs.Lines.{Rule, rule_of, tied, parted, valued, shared, differing, alike}
-use Rattle.clu_rules.specs.Rules.{HasValue, Agree, Disagree, Ties, Parts}
+use Rattle.clu_rules.specs.Lines.{Rule, as_rule, tied, parted, valued, shared, differing, alike}
+use Rattle.clu_rules.specs.Rules.{HasAttribute, ShareValue, DifferInValue, RuleRequires, RuleForbids}
 use Rattle.clu_rules.specs.declared.rule.Rule.{Rule as Found}
 use Rattle.clu_rules.specs.declared.values.Value.{Value}
 
@@ -32,13 +32,13 @@ ClashIn equal values a u v = Any (ClashAt equal a) values u v
 
 -- the vertices that have a value under the key, with their values
 pub record AreValues (rules : List Rule) (key : List ℕ) (values : List Value) : Type 0 where
-  pub only : (a : Value) → Contains values a → HasValue rules key a.vertex a.value.now
-  pub each : (v : ℕ) (value : List ℕ) → HasValue rules key v value → (a : Value) × Contains values a × (a.vertex ≡ v) × (a.value.now ≡ value)
+  pub only : (a : Value) → Contains values a → HasAttribute rules key a.vertex a.value.now
+  pub each : (v : ℕ) (value : List ℕ) → HasAttribute rules key v value → (a : Value) × Contains values a × (a.vertex ≡ v) × (a.value.now ≡ value)
 
 -- two vertices with equal values under the key, or two with different ones
 abbrev pub OfKey : Bool → List Rule → List ℕ → ℕ → ℕ → Type 0
-OfKey true rules key u v = (u ≢ v) × Agree rules key u v
-OfKey false rules key u v = Disagree rules key u v
+OfKey true rules key u v = (u ≢ v) × ShareValue rules key u v
+OfKey false rules key u v = DifferInValue rules key u v
 
 -- the vertices of the rule are below n
 abbrev pub IsBelow : ℕ → Rule → Type 0
@@ -51,8 +51,8 @@ IsBelow n (alike key) = Unit {0}
 
 -- the pairs that a rule as the code has it requires, beside all rules
 abbrev pub RequiredBy : List Rule → Found → ℕ → ℕ → Type 0
-RequiredBy rules rule = Ties rules (rule_of rule)
+RequiredBy rules rule = RuleRequires rules (as_rule rule)
 
 -- the pairs that it forbids
 abbrev pub ForbiddenBy : List Rule → Found → ℕ → ℕ → Type 0
-ForbiddenBy rules rule = Parts rules (rule_of rule)
+ForbiddenBy rules rule = RuleForbids rules (as_rule rule)

@@ -5,42 +5,42 @@ use Rattle.clu_partition.specs.Closed.{AreRising}
 use Rattle.clu_rules.specs.Lines.{Rule, tied, parted, valued, shared, differing, alike}
 
 -- the vertex has the value under the key
-abbrev pub HasValue : List Rule → List ℕ → ℕ → List ℕ → Type 0
-HasValue rules key v value = Contains rules (valued v key value)
+abbrev pub HasAttribute : List Rule → List ℕ → ℕ → List ℕ → Type 0
+HasAttribute rules key v value = Contains rules (valued v key value)
 
 -- two vertices have equal values under the key
-abbrev pub Agree : List Rule → List ℕ → ℕ → ℕ → Type 0
-Agree rules key u v = (value : List ℕ) × HasValue rules key u value × HasValue rules key v value
+abbrev pub ShareValue : List Rule → List ℕ → ℕ → ℕ → Type 0
+ShareValue rules key u v = (value : List ℕ) × HasAttribute rules key u value × HasAttribute rules key v value
 
 -- two vertices have different values under the key: each has one, so a vertex without the key is free
-abbrev pub Disagree : List Rule → List ℕ → ℕ → ℕ → Type 0
-Disagree rules key u v = (x y : List ℕ) × HasValue rules key u x × HasValue rules key v y × (x ≢ y)
+abbrev pub DifferInValue : List Rule → List ℕ → ℕ → ℕ → Type 0
+DifferInValue rules key u v = (x y : List ℕ) × HasAttribute rules key u x × HasAttribute rules key v y × (x ≢ y)
 
 -- the rule, beside all rules, requires u and v to share a block
-abbrev pub Ties : List Rule → Rule → ℕ → ℕ → Type 0
-Ties rules (tied a b) u v = (u ≡ a) × (v ≡ b)
-Ties rules (shared key) u v = (u ≢ v) × Agree rules key u v
-Ties rules (parted a b) u v = ⊥
-Ties rules (valued w key value) u v = ⊥
-Ties rules (differing key) u v = ⊥
-Ties rules (alike key) u v = ⊥
+abbrev pub RuleRequires : List Rule → Rule → ℕ → ℕ → Type 0
+RuleRequires rules (tied a b) u v = (u ≡ a) × (v ≡ b)
+RuleRequires rules (shared key) u v = (u ≢ v) × ShareValue rules key u v
+RuleRequires rules (parted a b) u v = ⊥
+RuleRequires rules (valued w key value) u v = ⊥
+RuleRequires rules (differing key) u v = ⊥
+RuleRequires rules (alike key) u v = ⊥
 
 -- the rule, beside all rules, forbids u and v to share a block
-abbrev pub Parts : List Rule → Rule → ℕ → ℕ → Type 0
-Parts rules (parted a b) u v = (u ≡ a) × (v ≡ b)
-Parts rules (differing key) u v = (u ≢ v) × Agree rules key u v
-Parts rules (alike key) u v = Disagree rules key u v
-Parts rules (tied a b) u v = ⊥
-Parts rules (valued w key value) u v = ⊥
-Parts rules (shared key) u v = ⊥
+abbrev pub RuleForbids : List Rule → Rule → ℕ → ℕ → Type 0
+RuleForbids rules (parted a b) u v = (u ≡ a) × (v ≡ b)
+RuleForbids rules (differing key) u v = (u ≢ v) × ShareValue rules key u v
+RuleForbids rules (alike key) u v = DifferInValue rules key u v
+RuleForbids rules (tied a b) u v = ⊥
+RuleForbids rules (valued w key value) u v = ⊥
+RuleForbids rules (shared key) u v = ⊥
 
 -- some rule requires u and v to share a block
 abbrev pub Requires : List Rule → ℕ → ℕ → Type 0
-Requires rules u v = (rule : Rule) × Contains rules rule × Ties rules rule u v
+Requires rules u v = (rule : Rule) × Contains rules rule × RuleRequires rules rule u v
 
 -- some rule forbids u and v to share a block
 abbrev pub Forbids : List Rule → ℕ → ℕ → Type 0
-Forbids rules u v = (rule : Rule) × Contains rules rule × Parts rules rule u v
+Forbids rules u v = (rule : Rule) × Contains rules rule × RuleForbids rules rule u v
 
 -- the list rises, and each pair has its smaller vertex first and two of n vertices, which may be equal
 pub record IsPairList (n : ℕ) (list : List (ℕ × ℕ)) : Type 0 where

@@ -3,7 +3,7 @@
 
 ghost use Rattle.std.specs.Prelude.{◌≡◌, ◌↔◌, ◌∷◌, [], ℕ, List, IsTrue, MatchOption};
 ghost use Rattle.clu_text.specs.Lines.{fields_of};
-ghost use Rattle.clu_rules.specs.Lines.{is_kept as kept, words, form_of as as_form, Form as Line};
+ghost use Rattle.clu_rules.specs.Lines.{is_kept_in_rules as kept, form_fields, as_form, LineForm as Line};
 
 use clu_text::{FieldIter, fields};
 
@@ -20,8 +20,8 @@ pub(crate) enum Form<'a> {
 
 /// The form of a line; none where its fields are those of no form.
 pub(crate) fn form_of<'a>(line: &'a [u8]) -> Option<Form<'a>>
-    ensures { MatchOption result ((form : Line) → fields_of line.now ≡ words form → ⊥)
-        (λ form. fields_of line.now ≡ words (as_form form)) }
+    ensures { MatchOption result ((form : Line) → fields_of line.now ≡ form_fields form → ⊥)
+        (λ form. fields_of line.now ≡ form_fields (as_form form)) }
 {
     let mut rest = fields(line);
     let word = rest.next()?;

@@ -2,9 +2,9 @@
 //! vertices, so that it is listed once and in order, however many rules give it.
 
 ghost use Rattle.std.specs.Prelude.{◌≡◌, ◌≤◌, ◌<◌, All, IfOk, OnOk, MatchOption, ℕ, List, map};
-ghost use Rattle.clu_rules.specs.Lines.{rule_of as as_rule, valued};
+ghost use Rattle.clu_rules.specs.Lines.{as_rule, valued};
 ghost use Rattle.clu_rules.specs.Puts.{Puts, Any, AreValues, OfKey, IsBelow, RequiredBy, ForbiddenBy};
-ghost use Rattle.clu_rules.specs.Rules.{IsListOf, Ties, Parts, Requires, Forbids};
+ghost use Rattle.clu_rules.specs.Rules.{IsListOf, RuleRequires, RuleForbids, Requires, Forbids};
 
 use crate::Rules;
 use crate::form::are_equal;
@@ -62,8 +62,8 @@ fn put_rule(
     requires one_size { forbidden.old.n ≡ required.old.n }
     requires all { All (IsBelow required.old.n) (map as_rule rules.now) }
     requires one { IsBelow required.old.n (as_rule rule.now) }
-    ensures required { OnOk result (Puts (Ties (map as_rule rules.now) (as_rule rule.now)) required.old required.new) }
-    ensures forbidden { OnOk result (Puts (Parts (map as_rule rules.now) (as_rule rule.now)) forbidden.old forbidden.new) }
+    ensures required { OnOk result (Puts (RuleRequires (map as_rule rules.now) (as_rule rule.now)) required.old required.new) }
+    ensures forbidden { OnOk result (Puts (RuleForbids (map as_rule rules.now) (as_rule rule.now)) forbidden.old forbidden.new) }
 {
     match rule {
         Rule::Together(u, v) => {

@@ -4,8 +4,8 @@
 ghost use Rattle.std.specs.Prelude.{◌≡◌, ◌⊎◌, ◌↔◌, [], true, IfOk, IfErr, IsTrue, MatchResult, map};
 ghost use Rattle.std.specs.List.{enumerate_from};
 ghost use Rattle.clu_text.specs.Lines.{lines_of, fields_of};
-ghost use Rattle.clu_rules.specs.Lines.{is_kept as kept, rule_of as as_rule};
-ghost use Rattle.clu_rules.specs.Reading.{Adds, GivesTwice, HasSome, GivesSome, Stops, Reads, IsFirstFault};
+ghost use Rattle.clu_rules.specs.Lines.{is_kept_in_rules as kept, as_rule};
+ghost use Rattle.clu_rules.specs.Reading.{AddsRule, GivesTwice, HasSome, GivesSome, StopsAtRule, ReadsRules, IsRulesFault};
 ghost use Rattle.clu_rules.specs.declared.error.RuleError.TheVariants.{Memory};
 
 use crate::RuleError;
@@ -22,8 +22,8 @@ pub(crate) fn read_lines<'a, N: Names>(
     names: &N,
     bytes: &'a [u8],
 ) -> Result<Seq<Rule<'a>>, RuleError>
-    ensures ok { IfOk result (λ rules. Reads (N.is_named names.now) (enumerate_from 1 (lines_of bytes.now)) [] (map as_rule rules)) }
-    ensures err { IfErr result (λ e. (e ≡ Memory) ⊎ IsFirstFault (N.is_named names.now) bytes.now e) }
+    ensures ok { IfOk result (λ rules. ReadsRules (N.is_named names.now) (enumerate_from 1 (lines_of bytes.now)) [] (map as_rule rules)) }
+    ensures err { IfErr result (λ e. (e ≡ Memory) ⊎ IsRulesFault (N.is_named names.now) bytes.now e) }
 {
     let mut rules = Seq::new(alloc);
     let mut rest = lines(bytes);
@@ -48,8 +48,8 @@ fn read_line<'a, N: Names>(
 ) -> Result<Rule<'a>, RuleError>
     requires { kept (fields_of bytes.now) ≡ true }
     ensures { MatchResult result
-        (λ rule. Adds (N.is_named names.now) (map as_rule earlier.now) bytes.now (as_rule rule))
-        (λ e. Stops (N.is_named names.now) (map as_rule earlier.now) number bytes.now e) }
+        (λ rule. AddsRule (N.is_named names.now) (map as_rule earlier.now) bytes.now (as_rule rule))
+        (λ e. StopsAtRule (N.is_named names.now) (map as_rule earlier.now) number bytes.now e) }
 {
     let Some(form) = form_of(bytes) else {
         return Err(RuleError::BadRule { line: number });

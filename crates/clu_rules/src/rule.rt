@@ -2,7 +2,7 @@
 //! in place of names, so what it says depends on no other line.
 
 ghost use Rattle.std.specs.Prelude.{MatchOption};
-ghost use Rattle.clu_rules.specs.Lines.{form_of as as_form, rule_of as as_rule, Says, HasUnknown};
+ghost use Rattle.clu_rules.specs.Lines.{as_form, as_rule, Says, HasUnknown};
 
 use crate::form::Form;
 use clu_partition::{Names, Vertex};

@@ -2,7 +2,7 @@
 //! taken from all rules afterwards, so attribute lines count wherever they stand.
 
 ghost use Rattle.std.specs.Prelude.{◌≡◌, ◌≢◌, ◌⊎◌, ℕ, List, length, IfOk, IfErr, IsErrOf};
-ghost use Rattle.clu_rules.specs.Reading.{AreRules, IsFirstFault};
+ghost use Rattle.clu_rules.specs.Reading.{AreRules, IsRulesFault};
 ghost use Rattle.clu_rules.specs.declared.error.RuleError.{RuleError as Refusal};
 ghost use Rattle.clu_rules.specs.declared.error.RuleError.TheVariants.{Memory};
 
@@ -27,8 +27,8 @@ pub fn read_rules<N: Names>(alloc: Global, bytes: &[u8], names: &N) -> Result<Ru
     ensures one { IfOk result (λ r. (required forbidden : List (ℕ × ℕ))
         → AreRules r.n (N.is_named names.now) bytes.now required forbidden
         → (required ≡ r.required) × (forbidden ≡ r.forbidden)) }
-    ensures refused { IfErr result (λ e. (e ≡ Memory) ⊎ IsFirstFault (N.is_named names.now) bytes.now e) }
-    ensures first { (e : Refusal) → IsFirstFault (N.is_named names.now) bytes.now e
+    ensures refused { IfErr result (λ e. (e ≡ Memory) ⊎ IsRulesFault (N.is_named names.now) bytes.now e) }
+    ensures first { (e : Refusal) → IsRulesFault (N.is_named names.now) bytes.now e
         → IsErrOf result e ⊎ IsErrOf result Memory }
     ensures only { IfErr result (λ e. e ≢ Memory → (required forbidden : List (ℕ × ℕ))
         → AreRules (length (N.names names.now)) (N.is_named names.now) bytes.now required forbidden → ⊥) }

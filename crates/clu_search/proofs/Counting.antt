@@ -10,7 +10,7 @@ use Rattle.clu_partition.proofs.SumLaws.{Each, Among}
 use Rattle.clu_partition.proofs.ListLaws.{each_map}
 use Rattle.clu_partition.proofs.Ranges.{below_size}
 use Rattle.clu_partition.proofs.RangeLaws.{among_range}
-use Rattle.clu_state.specs.State.{State, IsState, InClass, Obeys, IsFree, leader, decided}
+use Rattle.clu_state.specs.State.{State, IsState, InClass, ObeysDecision, IsFree, leader, decided}
 use Rattle.clu_state.specs.declared.decision.Decision.{Decision}
 use Rattle.clu_state.specs.declared.decision.Decision.TheVariants.{Together, Apart}
 use Rattle.clu_state.proofs.Whole.{among_below}
@@ -33,13 +33,13 @@ pub own_family : (s : State) → IsState s → Family s 0
 own_family s i = record { labellings = leader s ∷ []; many = refl; within = (own_class s i, tt); differ = (tt, tt) }
 
 -- a partition of the class after a decision obeys those before it, and this one
-obeyed : (s : State) (d : Decision) (label : ℕ → ℕ) → InClass (decided s d) label → All (Obeys label) s.decisions × IfSome (Some d) (Obeys label)
-obeyed s d label c = All-pop (Obeys label) (s.decisions ++ d ∷ []) s.decisions (Some d) refl c.decisions
+obeyed : (s : State) (d : Decision) (label : ℕ → ℕ) → InClass (decided s d) label → All (ObeysDecision label) s.decisions × IfSome (Some d) (ObeysDecision label)
+obeyed s d label c = All-pop (ObeysDecision label) (s.decisions ++ d ∷ []) s.decisions (Some d) refl c.decisions
 
 pub class_before : (s : State) (d : Decision) (label : ℕ → ℕ) → InClass (decided s d) label → InClass s label
 class_before s d label c = record { required = c.required; forbidden = c.forbidden; decisions = (obeyed s d label c).0 }
 
-pub class_obeys : (s : State) (d : Decision) (label : ℕ → ℕ) → InClass (decided s d) label → Obeys label d
+pub class_obeys : (s : State) (d : Decision) (label : ℕ → ℕ) → InClass (decided s d) label → ObeysDecision label d
 class_obeys s d label c = (obeyed s d label c).1
 
 each_before : (s : State) (d : Decision) (labellings : List (ℕ → ℕ)) → Each (InClass (decided s d)) labellings → Each (InClass s) labellings

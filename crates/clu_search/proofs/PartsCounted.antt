@@ -12,7 +12,7 @@ use Rattle.clu_objective.specs.Problem.{Posed}
 use Rattle.clu_state.specs.State.{State}
 use Rattle.clu_state.proofs.Whole.{all_members, among_below}
 use Rattle.clu_reduce.specs.declared.step.Step.{Step}
-use Rattle.clu_cert.specs.Valid.{whole, stepped, AllParts, part_state, HaveUppers, IsValid}
+use Rattle.clu_cert.specs.Valid.{whole_state, stepped, AllParts, part_state, HaveUppers, IsValid}
 use Rattle.clu_cert.specs.declared.certificate.Certificate.{Certificate}
 use Rattle.clu_cert.specs.declared.certificate.Proof.{Proof}
 use Rattle.clu_cert.proofs.States.{IsTask, part_is_state}
@@ -67,7 +67,7 @@ none_shared s earlier part parts a v c m =
     omega (arith, h, k)
 
 parts_below : (problem : Posed) (start : Closed) (steps : List Step) (earlier parts : List (List ℕ)) → HasRoot problem start steps →
-    AllParts (stepped (whole problem start) steps) earlier parts → All (λ v. v < length start.group) (concat parts)
+    AllParts (stepped (whole_state problem start) steps) earlier parts → All (λ v. v < length start.group) (concat parts)
 parts_below problem start steps earlier [] r a = All-nil (λ v. v < length start.group)
 parts_below problem start steps earlier (part ∷ parts) r a = All-append (λ v. v < length start.group) part (concat parts)
     (part_is_state problem start steps earlier part r.task r.held a.0).members.below
@@ -75,7 +75,7 @@ parts_below problem start steps earlier (part ∷ parts) r a = All-append (λ v.
 
 -- ---- partitions of all parts together
 parts_permitted : (problem : Posed) (start : Closed) (steps : List Step) (proofs : List Proof) (uppers : List ℤ) (earlier : List (List ℕ)) →
-    HasRoot problem start steps → AllParts (stepped (whole problem start) steps) earlier (parts_in proofs) →
+    HasRoot problem start steps → AllParts (stepped (whole_state problem start) steps) earlier (parts_in proofs) →
     HaveUppers problem start steps proofs uppers → Permitted start (concat (parts_in proofs)) (choices proofs)
 parts_permitted problem start steps [] [] earlier r a h = record {
   labellings = (λ v. v) ∷ [];
@@ -92,7 +92,7 @@ parts_permitted problem start steps (proof ∷ proofs) (upper ∷ uppers) earlie
     (record {
       first = i.members;
       below = parts_below problem start steps (earlier ++ proof.part ∷ []) (parts_in proofs) r a.1;
-      apart = none_shared (stepped (whole problem start) steps) earlier proof.part (parts_in proofs) a;
+      apart = none_shared (stepped (whole_state problem start) steps) earlier proof.part (parts_in proofs) a;
     })
     (family_permitted s (branch_items proof.items) (tree_family s proof.items upper i h.0))
     (parts_permitted problem start steps proofs uppers (earlier ++ proof.part ∷ []) r a.1 h.1)
@@ -130,7 +130,7 @@ parts_counted problem start steps proofs uppers lists h has =
         All-contains (λ v. v < length start.group) (below (length start.group)) v (all_members start h.root.task.closed).below c in
         let e = h.root.task.size in
         let m = subst (λ ms. Contains ms v) (sym (root_members problem start steps)) (among_below problem.pairs.n v (omega (arith, l, e))) in
-        let r = covered (stepped (whole problem start) steps) (parts_in proofs) h.cover v m in
+        let r = covered (stepped (whole_state problem start) steps) (parts_in proofs) h.cover v m in
         in_all (parts_in proofs) r.place v r.within r.has
 
 pub valid_counted : (problem : Posed) (start : Closed) (cert : Certificate) (lists : List (List ℕ)) → IsTask problem start →

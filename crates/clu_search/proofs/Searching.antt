@@ -13,29 +13,29 @@ use Rattle.clu_node.specs.declared.bound.NodeBound.{NodeBound}
 use Rattle.clu_node.specs.declared.bound.How.TheVariants.{Closed}
 use Rattle.clu_cert.specs.Fits.{ItemFits}
 use Rattle.clu_cert.specs.Upper.{HasUpper}
-use Rattle.clu_cert.specs.Valid.{whole}
+use Rattle.clu_cert.specs.Valid.{whole_state}
 use Rattle.clu_cert.specs.declared.certificate.Item.{Item}
 use Rattle.clu_cert.specs.declared.certificate.Item.TheVariants.{Reduce, Leaf}
 use Rattle.clu_reduce.specs.declared.step.Step.{Step}
 use Rattle.clu_cert.proofs.States.{IsTask, whole_is_state}
 use Rattle.clu_tree.specs.Items.{branch_items}
-use Rattle.clu_tree.specs.Nodes.{Tree, Shown, HasKey, LeafAt, IsOpen, items_of, new_leaf}
+use Rattle.clu_tree.specs.Nodes.{Tree, Shown, HasKey, LeafAt, IsOpenLeaf, items_of, new_leaf}
 use Rattle.clu_tree.specs.declared.node.Fresh.{Fresh}
 use Rattle.clu_tree.proofs.KeyLaws.{unsplit_once}
 use Rattle.clu_search.specs.Incumbent.{IsIncumbent}
-use Rattle.clu_search.specs.Search.{AreSettled, AreStates, IsAbove, IsCertified, IsSearch, IsSettled, made}
+use Rattle.clu_search.specs.Search.{AreRightlyClosed, AreStates, IsAbove, IsCertOfBest, IsSearch, IsRightlyClosed, made}
 use Rattle.clu_search.specs.Whole.{certificate_of}
 use Rattle.clu_search.specs.declared.incumbent.Incumbent.{Incumbent}
 use Rattle.clu_search.specs.declared.search.Search.{Search}
 use Rattle.clu_search.specs.declared.states.States.{States}
 use Rattle.clu_search.proofs.Certified.{IsFound, found_valid, found_exact, found_fits, found_branchings, found_optimal}
 
-pub task_of : (problem : Posed) (start : Rules) → IsPosed problem → IsState (whole problem start) → IsTask problem start
+pub task_of : (problem : Posed) (start : Rules) → IsPosed problem → IsState (whole_state problem start) → IsTask problem start
 task_of problem start posed i = record { posed = posed; closed = i.closed; size = sym i.one_size; few = i.small }
 
 -- ---- one node
 -- a better partition settles no less
-pub settled_more : (best more : ℤ) (node : NodeBound) → best ≤ℤ more → IsSettled best node → IsSettled more node
+pub settled_more : (best more : ℤ) (node : NodeBound) → best ≤ℤ more → IsRightlyClosed best node → IsRightlyClosed more node
 settled_more best more node low s = record {
   closed = λ e. let h = s.closed e in omega (arith, ints, h, low);
   paired = s.paired;
@@ -53,7 +53,7 @@ unclosed s key i a e =
     let above = a.above in
     omega (arith, ints, h, above)
 
-pub open_leaf : (s : Search) (key : ℕ) → IsSearch s → IsAbove s key → IsOpen s.tree key
+pub open_leaf : (s : Search) (key : ℕ) → IsSearch s → IsAbove s key → IsOpenLeaf s.tree key
 open_leaf s key i a = record {
   node = a.node;
   leaf = a.leaf;
@@ -72,17 +72,17 @@ no_pair s key node i a only e =
 pub settled_split : (best : ℤ) (old new : List Shown) (first second : ℕ) (together apart : NodeBound) →
     ((key : ℕ) (node : NodeBound) → LeafAt key node new →
     LeafAt key node old ⊎ (((key ≡ first) × (node ≡ together)) ⊎ ((key ≡ second) × (node ≡ apart)))) →
-    AreSettled best old → IsSettled best together → IsSettled best apart → AreSettled best new
+    AreRightlyClosed best old → IsRightlyClosed best together → IsRightlyClosed best apart → AreRightlyClosed best new
 settled_split best old new first second together apart bounds all one two key node at = ⊎_elim
     (λ b. all key node b)
     (λ r. ⊎_elim
-    (λ e. subst (IsSettled best) (sym e.1) one)
-    (λ e. subst (IsSettled best) (sym e.1) two)
+    (λ e. subst (IsRightlyClosed best) (sym e.1) one)
+    (λ e. subst (IsRightlyClosed best) (sym e.1) two)
     r)
     (bounds key node at)
 
 -- the same tree but for its nodes
-pub with_nodes : (s : Search) (t : Tree) (ns : List Shown) → IsSearch s → t ≡ record s.tree { nodes = ns } → AreSettled s.incumbent.value t.nodes →
+pub with_nodes : (s : Search) (t : Tree) (ns : List Shown) → IsSearch s → t ≡ record s.tree { nodes = ns } → AreRightlyClosed s.incumbent.value t.nodes →
     IsSearch (record s { tree = t })
 with_nodes s t ns i e settled = record {
   posed = i.posed;
@@ -128,8 +128,8 @@ pub found_of : (s : Search) (items : List Item) (z upper : ℤ) → IsSearch s �
 found_of s items z upper i are is h = record {
   task = task_of s.problem.now s.start.now i.posed i.state;
   known = i.known;
-  proved = subst (λ v. HasUpper (whole s.problem.now s.start.now) items v) (sym is)
-      (subst (λ is. HasUpper (whole s.problem.now s.start.now) is upper) (sym are)
+  proved = subst (λ v. HasUpper (whole_state s.problem.now s.start.now) items v) (sym is)
+      (subst (λ is. HasUpper (whole_state s.problem.now s.start.now) is upper) (sym are)
       (subst (λ t. HasUpper t (items_of s.tree.nodes) upper) i.root h));
 }
 
@@ -139,7 +139,7 @@ IsReached s upper = (key : ℕ) × (node : NodeBound) × LeafAt key node s.tree.
 
 pub certified : (s : Search) (items : List Item) (z : ℤ) → IsFound s.problem.now s.start.now s.incumbent items z →
     items ≡ items_of s.tree.nodes → IsReached s z → length items < 2 ^ 64 → AllByRecursion ItemFits items →
-    IsCertified s (certificate_of s.problem.now s.incumbent items z)
+    IsCertOfBest s (certificate_of s.problem.now s.incumbent items z)
 certified s items z f are reached count each = record {
   valid = found_valid s.problem.now s.start.now s.incumbent items z f;
   exact = found_exact s.problem.now s.start.now s.incumbent items z f;
@@ -152,14 +152,14 @@ certified s items z f are reached count each = record {
 
 -- ---- the ends of the steps
 -- the groups of a state of the search were tried
-pub with_fresh : (s : Search) (t : State) (ds : List Decision) (best : Incumbent) (scratch : Room) → IsSearch s → t ≡ record (whole s.problem.now s.start.now) { decisions = ds } →
+pub with_fresh : (s : Search) (t : State) (ds : List Decision) (best : Incumbent) (scratch : Room) → IsSearch s → t ≡ record (whole_state s.problem.now s.start.now) { decisions = ds } →
     IsIncumbent t.pairs t.start best → s.incumbent.value ≤ℤ best.value → scratch.n ≡ s.scratch.n → IsSearch (record s { incumbent = best; scratch = scratch })
 with_fresh s t ds best scratch i e known more room =
     with_best s best scratch i more (let had = i.room in omega (arith, had, room)) (subst (λ (u : State). IsIncumbent u.pairs u.start best) e known)
 
 -- the rules are for the problem
 pub state_for : (problem seen : Posed) (start : Rules) (n : ℕ) → seen ≡ problem → IsPosed seen → IsClosed start → n ≡ seen.pairs.n → n ≤ 1000 →
-    length start.group ≡ problem.pairs.n → IsState (whole problem start)
+    length start.group ≡ problem.pairs.n → IsState (whole_state problem start)
 state_for problem seen start n e posed closed size few for = whole_is_state problem start (record {
   posed = subst IsPosed e posed;
   closed = closed;
@@ -171,7 +171,7 @@ state_for problem seen start n e posed closed size few for = whole_is_state prob
 -- the tree of all vertices, of which the root alone stands
 abbrev pub IsRoot : Posed → Rules → ℤ → Fresh → Tree → Type 0
 IsRoot problem start floor fresh t =
-    (key : ℕ) × (t ≡ record { root = whole problem start; floor = floor; nodes = new_leaf key fresh ∷ [] })
+    (key : ℕ) × (t ≡ record { root = whole_state problem start; floor = floor; nodes = new_leaf key fresh ∷ [] })
 
 pub root_of : (problem : Posed) (start : Rules) (pairs : Pairs) (members : List ℕ) (floor : ℤ) (fresh : Fresh) (t : Tree) → pairs ≡ problem.pairs →
     members ≡ below problem.pairs.n → (key : ℕ) × (t ≡ record {
@@ -188,9 +188,9 @@ root_of problem start pairs members floor fresh t e f is = (
   }),
 )
 
-pub first_search : (s : Search) (fresh : Fresh) (floor : ℤ) → IsPosed s.problem.now → IsState (whole s.problem.now s.start.now) →
-    AreStates (whole s.problem.now s.start.now) s.states → IsRoot s.problem.now s.start.now floor fresh s.tree → floor ≡ s.incumbent.value →
-    s.problem.now.pairs.n ≤ s.scratch.n → IsIncumbent s.problem.now.pairs s.start.now s.incumbent → IsSettled s.incumbent.value fresh.bound →
+pub first_search : (s : Search) (fresh : Fresh) (floor : ℤ) → IsPosed s.problem.now → IsState (whole_state s.problem.now s.start.now) →
+    AreStates (whole_state s.problem.now s.start.now) s.states → IsRoot s.problem.now s.start.now floor fresh s.tree → floor ≡ s.incumbent.value →
+    s.problem.now.pairs.n ≤ s.scratch.n → IsIncumbent s.problem.now.pairs s.start.now s.incumbent → IsRightlyClosed s.incumbent.value fresh.bound →
     IsSearch s
 first_search s fresh floor posed state states root is room known settled = record {
   posed = posed;
@@ -200,11 +200,11 @@ first_search s fresh floor posed state states root is room known settled = recor
   floor = let e = ap (λ (t : Tree). t.floor) root.1 in omega (arith, ints, e, is);
   room = room;
   known = known;
-  settled = subst (AreSettled s.incumbent.value) (sym (ap (λ (t : Tree). t.nodes) root.1)) one;
+  settled = subst (AreRightlyClosed s.incumbent.value) (sym (ap (λ (t : Tree). t.nodes) root.1)) one;
 }
   where
-    one : AreSettled s.incumbent.value (new_leaf root.0 fresh ∷ [])
-    one key node at = ⊎_elim (λ e. subst (IsSettled s.incumbent.value) (unsplit_once fresh.bound node e.1) settled) absurd at
+    one : AreRightlyClosed s.incumbent.value (new_leaf root.0 fresh ∷ [])
+    one key node at = ⊎_elim (λ e. subst (IsRightlyClosed s.incumbent.value) (unsplit_once fresh.bound node e.1) settled) absurd at
 
 pub none_made : (s : Search) (fresh : Fresh) (floor : ℤ) →
     IsRoot s.problem.now s.start.now floor fresh s.tree → made s ≡ 0

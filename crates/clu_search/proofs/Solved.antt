@@ -7,7 +7,7 @@ use Rattle.clu_cert.specs.declared.certificate.Certificate.{Certificate}
 use Rattle.clu_cert.proofs.ValidLaws.{valid_sound}
 use Rattle.clu_search.specs.Count.{partitions, permitted_of}
 use Rattle.clu_search.specs.Evidence.{IsEvidence}
-use Rattle.clu_search.specs.Search.{IsCertified, IsSearch, IsStopped, made}
+use Rattle.clu_search.specs.Search.{IsCertOfBest, IsSearch, IsStopped, made}
 use Rattle.clu_search.specs.declared.solver.Evidence.{Evidence}
 use Rattle.clu_search.specs.declared.search.Search.{Search}
 use Rattle.clu_search.proofs.PartsCounted.{valid_counted}
@@ -15,7 +15,7 @@ use Rattle.clu_search.proofs.Permitted.{has_each_permitted}
 use Rattle.clu_search.proofs.Searching.{task_of}
 
 -- what the search at its end and its certificate show
-pub evidence_of : (s : Search) (problem : Posed) (start : Closed) (e : Evidence) → IsSearch s → IsCertified s e.certificate →
+pub evidence_of : (s : Search) (problem : Posed) (start : Closed) (e : Evidence) → IsSearch s → IsCertOfBest s e.certificate →
     e.partition ≡ s.incumbent.partition → e.branchings ≡ made s → s.problem.now ≡ problem → s.start.now ≡ start → IsEvidence problem start e
 evidence_of s problem start e i certified found counted p q = subst (λ c. IsEvidence problem c e) q (subst (λ r. IsEvidence r s.start.now e) p (record {
   partition = subst (IsPartition s.problem.now.pairs.n) (sym found) i.known.partition;
@@ -34,7 +34,7 @@ pub evidence_for : (problem other : Posed) (start also : Closed) (e : Evidence) 
 evidence_for problem other start also e p q h = subst (λ c. IsEvidence other c e) q (subst (λ r. IsEvidence r start e) p h)
 
 -- fewer branchings were made than there are permitted partitions
-pub made_counted : (s : Search) (cert : Certificate) (branchings : ℕ) (start : Closed) → IsSearch s → IsCertified s cert → branchings ≡ made s →
+pub made_counted : (s : Search) (cert : Certificate) (branchings : ℕ) (start : Closed) → IsSearch s → IsCertOfBest s cert → branchings ≡ made s →
     s.start.now ≡ start → branchings < length (permitted_of start (partitions (length start.group)))
 made_counted s cert branchings start i certified is q =
     let lists : List (List ℕ) = permitted_of s.start.now (partitions (length s.start.now.group)) in
@@ -44,6 +44,6 @@ made_counted s cert branchings start i certified is q =
     (has_each_permitted s.start.now)))
 
 -- value and bound differ only where all allowed branchings were made
-pub all_made : (s : Search) (cert : Certificate) (branchings limit : ℕ) → IsCertified s cert → branchings ≡ made s → IsStopped s limit →
+pub all_made : (s : Search) (cert : Certificate) (branchings limit : ℕ) → IsCertOfBest s cert → branchings ≡ made s → IsStopped s limit →
     cert.value ≢ cert.bound → branchings ≡ limit
 all_made s cert branchings limit certified is stopped gap = ⊎_elim (λ all. is ∙ all) (λ last. absurd (gap (certified.optimal last))) stopped

@@ -5,7 +5,7 @@ use Rattle.clu_state.specs.State.{State, IsState}
 use Rattle.clu_node.specs.declared.bound.NodeBound.{NodeBound}
 use Rattle.clu_node.specs.declared.bound.How.TheVariants.{Closed}
 use Rattle.clu_cert.specs.Fits.{Fits}
-use Rattle.clu_cert.specs.Valid.{IsValid, whole}
+use Rattle.clu_cert.specs.Valid.{IsValid, whole_state}
 use Rattle.clu_cert.specs.declared.certificate.Certificate.{Certificate}
 use Rattle.clu_tree.specs.Items.{branch_items}
 use Rattle.clu_tree.specs.Nodes.{LeafAt, Shown, items_of}
@@ -15,13 +15,13 @@ use Rattle.clu_search.specs.declared.search.Search.{Search}
 use Rattle.clu_search.specs.declared.states.States.{States}
 
 -- the leaf is closed only where its bound is no more than this value, and it is closed where it has no free pair
-pub record IsSettled (best : ℤ) (node : NodeBound) : Type 0 where
+pub record IsRightlyClosed (best : ℤ) (node : NodeBound) : Type 0 where
   pub closed : node.how ≡ Closed → node.bound ≤ℤ best
   pub paired : node.pair ≡ None → node.how ≡ Closed
 
--- each leaf is settled
-abbrev pub AreSettled : ℤ → List Shown → Type 0
-AreSettled best nodes = (key : ℕ) (node : NodeBound) → LeafAt key node nodes → IsSettled best node
+-- each leaf is closed rightly
+abbrev pub AreRightlyClosed : ℤ → List Shown → Type 0
+AreRightlyClosed best nodes = (key : ℕ) (node : NodeBound) → LeafAt key node nodes → IsRightlyClosed best node
 
 -- three states of one problem: the first has no decisions, the others may have some
 pub record AreStates (root : State) (states : States) : Type 0 where
@@ -34,13 +34,13 @@ pub record AreStates (root : State) (states : States) : Type 0 where
 -- than the best one
 pub record IsSearch (s : Search) : Type 0 where
   pub posed : IsPosed s.problem.now
-  pub state : IsState (whole s.problem.now s.start.now)
-  pub states : AreStates (whole s.problem.now s.start.now) s.states
-  pub root : s.tree.root ≡ whole s.problem.now s.start.now
+  pub state : IsState (whole_state s.problem.now s.start.now)
+  pub states : AreStates (whole_state s.problem.now s.start.now) s.states
+  pub root : s.tree.root ≡ whole_state s.problem.now s.start.now
   pub floor : s.tree.floor ≤ℤ s.incumbent.value
   pub room : s.problem.now.pairs.n ≤ s.scratch.n
   pub known : IsIncumbent s.problem.now.pairs s.start.now s.incumbent
-  pub settled : AreSettled s.incumbent.value s.tree.nodes
+  pub settled : AreRightlyClosed s.incumbent.value s.tree.nodes
 
 -- both are of one problem and its rules
 pub record SameTask (old new : Search) : Type 0 where
@@ -66,7 +66,7 @@ abbrev pub IsStopped : Search → ℕ → Type 0
 IsStopped s allowed = (made s ≡ allowed) ⊎ IsDone s
 
 -- the certificate of the best partition, with the tree as its proof
-pub record IsCertified (s : Search) (cert : Certificate) : Type 0 where
+pub record IsCertOfBest (s : Search) (cert : Certificate) : Type 0 where
   pub valid : IsValid s.problem.now s.start.now cert
   pub exact : StatesItsBound s.problem.now s.start.now cert
   pub fits : Fits cert

@@ -5,9 +5,9 @@
 ghost use Rattle.std.specs.Prelude.{◌≡◌, ◌+◌, ◌≤◌, ◌<◌, ◌^◌, ◌≤ℤ◌, IfOk, OnOk, length};
 ghost use Rattle.clu_partition.specs.Partition.{below};
 ghost use Rattle.clu_state.specs.State.{State};
-ghost use Rattle.clu_tree.specs.Nodes.{IsFit};
+ghost use Rattle.clu_tree.specs.Nodes.{MayStand};
 ghost use Rattle.clu_search.specs.Incumbent.{IsIncumbent};
-ghost use Rattle.clu_search.specs.Search.{IsAbove, IsCertified, IsSearch, IsSettled, IsStopped, SameTask, made};
+ghost use Rattle.clu_search.specs.Search.{IsAbove, IsCertOfBest, IsSearch, IsRightlyClosed, IsStopped, SameTask, made};
 
 use crate::certify::certify;
 use crate::incumbent::Incumbent;
@@ -79,8 +79,18 @@ impl<'p> Search<'p> {
         let (u, v) = pair;
         let path = self.tree.path(alloc, key)?;
         self.states.split_after(alloc, &path, u, v)?;
-        let together = fresh(alloc, &self.states.together, &mut self.incumbent, &mut self.scratch)?;
-        let apart = fresh(alloc, &self.states.apart, &mut self.incumbent, &mut self.scratch)?;
+        let together = fresh(
+            alloc,
+            &self.states.together,
+            &mut self.incumbent,
+            &mut self.scratch,
+        )?;
+        let apart = fresh(
+            alloc,
+            &self.states.apart,
+            &mut self.incumbent,
+            &mut self.scratch,
+        )?;
         self.tree.split(key, u, v, together, apart)?;
         Ok(())
     }
@@ -115,7 +125,7 @@ impl<'p> Search<'p> {
     pub(crate) fn certificate(self, alloc: Global) -> Result<(Partition, Certificate), AllocError>
         requires { IsSearch self }
         ensures partition { IfOk result (λ found. found.0 ≡ self.entry.incumbent.partition) }
-        ensures certified { IfOk result (λ found. IsCertified self.entry found.1) }
+        ensures certified { IfOk result (λ found. IsCertOfBest self.entry found.1) }
     {
         let upper = self.tree.upper();
         let items = self.tree.preorder(alloc)?;
@@ -136,8 +146,8 @@ fn fresh<S: Situation>(
     requires room { (S.state state.now).pairs.n ≤ scratch.old.n }
     ensures known { OnOk result (IsIncumbent (S.state state.now).pairs (S.state state.now).start best.new) }
     ensures risen { OnOk result (best.old.value ≤ℤ best.new.value) }
-    ensures fit { IfOk result (λ fresh. IsFit (S.state state.now) fresh) }
-    ensures settled { IfOk result (λ fresh. IsSettled best.new.value fresh.bound) }
+    ensures fit { IfOk result (λ fresh. MayStand (S.state state.now) fresh) }
+    ensures settled { IfOk result (λ fresh. IsRightlyClosed best.new.value fresh.bound) }
     ensures room { scratch.new.n ≡ scratch.old.n }
 {
     best.try_groups(alloc, state)?;

@@ -5,7 +5,7 @@ ghost use Rattle.std.specs.Prelude.{◌≡◌, ◌++◌, IfOk, OnOk};
 ghost use Rattle.clu_partition.specs.Partition.{below};
 ghost use Rattle.clu_state.specs.State.{State, IsState, IsFree, CanDecideAll, decided};
 ghost use Rattle.clu_state.specs.declared.decision.Decision.TheVariants.{Together, Apart};
-ghost use Rattle.clu_cert.specs.Valid.{whole};
+ghost use Rattle.clu_cert.specs.Valid.{whole_state};
 ghost use Rattle.clu_search.specs.Search.{AreStates};
 
 use clu_objective::Problem;
@@ -32,9 +32,9 @@ impl<'p> States<'p> {
         start: &'p Start,
         vertices: &[Vertex],
     ) -> Result<States<'p>, AllocError>
-        requires valid { IsState (whole problem.now start.now) }
+        requires valid { IsState (whole_state problem.now start.now) }
         requires vertices { vertices.now ≡ below problem.now.pairs.n }
-        ensures { IfOk result (AreStates (whole problem.now start.now)) }
+        ensures { IfOk result (AreStates (whole_state problem.now start.now)) }
     {
         Ok(States {
             root: undecided(alloc, problem, start, vertices)?,
@@ -76,9 +76,9 @@ fn undecided<'p>(
     start: &'p Start,
     vertices: &[Vertex],
 ) -> Result<Rebuilt<'p>, AllocError>
-    requires valid { IsState (whole problem.now start.now) }
+    requires valid { IsState (whole_state problem.now start.now) }
     requires vertices { vertices.now ≡ below problem.now.pairs.n }
-    ensures { IfOk result (λ state. state ≡ whole problem.now start.now) }
+    ensures { IfOk result (λ state. state ≡ whole_state problem.now start.now) }
 {
     Rebuilt::new(alloc, &problem.pairs, start, vertices)
 }

@@ -8,7 +8,7 @@ use Rattle.clu_partition.specs.Values.{value_on}
 use Rattle.clu_partition.specs.Groups.{between}
 use Rattle.clu_partition.proofs.Regroup.{between_sym}
 use Rattle.clu_partition.proofs.TableLaws.{weight_sym}
-use Rattle.clu_state.specs.State.{State, IsState, IsFree, InClass, Obeys, leader, decided, fixed_value, group_weight}
+use Rattle.clu_state.specs.State.{State, IsState, IsFree, InClass, ObeysDecision, leader, decided, fixed_value, group_weight}
 use Rattle.clu_state.specs.declared.decision.Decision.{Decision}
 use Rattle.clu_state.specs.declared.decision.Decision.TheVariants.{Together}
 use Rattle.clu_state.proofs.Bounds.{fixed_size}
@@ -16,7 +16,7 @@ use Rattle.clu_state.proofs.Joined.{decided_state, leader_together, new_fixed, t
 use Rattle.std.proofs.Common.{◌==◌}
 use Rattle.clu_partition.specs.Groups.{leaders}
 use Rattle.clu_state.proofs.Bridge.{state_are_groups}
-use Rattle.clu_starts.specs.Joined.{AreHints, Gains, IsFurther, IsJoined}
+use Rattle.clu_starts.specs.Joined.{AreHints, Gains, IsFurther, NoneGains}
 use Rattle.std.proofs.Common.{◌+◌, get_or}
 use Rattle.std.proofs.lemmas.List.{get_or_default}
 use Rattle.std.proofs.lemmas.List.Elements.{All-filter}
@@ -60,7 +60,7 @@ fewer : (s : State) (d : Decision) (label : ℕ → ℕ) → InClass (decided s 
 fewer s d label c = record {
   required = c.required;
   forbidden = c.forbidden;
-  decisions = λ k e l. All-contains (Obeys label) (s.decisions ++ d ∷ []) _ c.decisions (Contains-append_left s.decisions (d ∷ []) _ (Contains-get_or s.decisions k e l));
+  decisions = λ k e l. All-contains (ObeysDecision label) (s.decisions ++ d ∷ []) _ c.decisions (Contains-append_left s.decisions (d ∷ []) _ (Contains-get_or s.decisions k e l));
 }
 
 pub further_more : (first s t : State) (u v : ℕ) → IsFurther first s → Gains s u v → t ≡ decided s (Together u v) → IsFurther first t
@@ -84,7 +84,7 @@ pairs_next f xs i item is at low before k d l = ⊎_elim
     (cases_lt k i)
 
 pub joined_all : (s : State) (xs ys : List (ℕ × ℕ)) (i : ℕ) → xs ≡ ys → ys ≡ free_pairs s → length xs ≤ i →
-    ((k : ℕ) (d : ℕ × ℕ) → k < i → group_weight s (get_or xs k d).0 (get_or xs k d).1 ≤ℤ pos 0) → IsJoined s
+    ((k : ℕ) (d : ℕ × ℕ) → k < i → group_weight s (get_or xs k d).0 (get_or xs k d).1 ≤ℤ pos 0) → NoneGains s
 joined_all s xs ys i e f l all = record {
   none = subst (All (λ p. group_weight s p.0 p.1 ≤ℤ pos 0)) (e ∙ f) (λ k d at. all k d (omega (arith, l, at)));
 }

@@ -7,7 +7,7 @@ use Rattle.clu_partition.specs.Values.{value_on}
 use Rattle.clu_partition.proofs.SumLaws.{Each, total_cong, total_add, total_swap, total_zero, pair_add, pair_cong_on, square_is, only_same}
 use Rattle.clu_partition.proofs.PartLaws.{turned}
 use Rattle.clu_starts.specs.Settled.{moved}
-use Rattle.clu_starts.specs.Row.{beyond, from_one, row_weight}
+use Rattle.clu_starts.specs.Row.{beyond, weights_from, row_weight}
 
 -- the weight of u and v where u is in the set, and v outside it with the label c
 abbrev pub leaves : (ℕ → ℕ → ℤ) → (ℕ → ℕ) → ℕ → (ℕ → ℕ) → ℕ → ℕ → ℕ → ℤ
@@ -49,7 +49,7 @@ only_total false f xs = total_zero xs
 
 row_is : (w : ℕ → ℕ → ℤ) (key : ℕ → ℕ) (a : ℕ) (label : ℕ → ℕ) (c : ℕ) (vs : List ℕ) →
     cross_total (leaves w key a label c) vs vs ≡ row_weight w key a label c vs
-row_is w key a label c vs = total_cong (λ u. total (leaves w key a label c u) vs) (from_one w key a label c vs) vs
+row_is w key a label c vs = total_cong (λ u. total (leaves w key a label c u) vs) (weights_from w key a label c vs) vs
     (λ u. only_total (key u == a) (beyond w key a label c u) vs)
 
 pub both_ways : (w : ℕ → ℕ → ℤ) (key : ℕ → ℕ) (a : ℕ) (label : ℕ → ℕ) (c : ℕ) (vs : List ℕ) →

@@ -6,7 +6,7 @@ ghost use Rattle.std.specs.Prelude.{◌≡◌, ◌≢◌, ◌<◌, ◌≤◌, �
 ghost use Rattle.clu_state.specs.State.{State, IsFree, IsState, decided, leader};
 ghost use Rattle.clu_partition.specs.Partition.{SameBlocks};
 ghost use Rattle.clu_state.specs.declared.decision.Decision.TheVariants.{Together};
-ghost use Rattle.clu_starts.specs.Joined.{AreHints, Gains, IsFurther, IsJoined};
+ghost use Rattle.clu_starts.specs.Joined.{AreHints, Gains, IsFurther, NoneGains};
 
 use clu_partition::{Partition, Seq, Vertex};
 use clu_state::{Decision, Situation};
@@ -17,7 +17,7 @@ use std::alloc::{AllocError, Global};
 /// have some of the decisions.
 pub fn greedy<S: Situation>(alloc: Global, state: &mut S) -> Result<Partition, AllocError>
     ensures further { IfOk result (λ _. IsFurther (S.state state.old) (S.state state.new)) }
-    ensures joined { IfOk result (λ _. IsJoined (S.state state.new)) }
+    ensures joined { IfOk result (λ _. NoneGains (S.state state.new)) }
     ensures blocks { IfOk result (λ p. SameBlocks (map (leader (S.state state.new)) (S.state state.new).members) p) }
 {
     join_all(alloc, state)?;
@@ -30,7 +30,7 @@ pub fn greedy<S: Situation>(alloc: Global, state: &mut S) -> Result<Partition, A
 /// state may then have some of the decisions.
 pub fn join_all<S: Situation>(alloc: Global, state: &mut S) -> Result<(), AllocError>
     ensures further { OnOk result (IsFurther (S.state state.old) (S.state state.new)) }
-    ensures joined { OnOk result (IsJoined (S.state state.new)) }
+    ensures joined { OnOk result (NoneGains (S.state state.new)) }
 {
     let leaders = groups_of(alloc, state)?;
     let groups = leaders.as_slice();
@@ -70,7 +70,7 @@ fn next_pair<S: Situation>(
     partner: &[u32],
 ) -> Result<Option<(Vertex, Vertex)>, AllocError>
     requires hints { AreHints (S.state state.now) groups.now partner.now }
-    ensures { IfOk result (λ found. MatchOption found (IsJoined (S.state state.now)) (λ p. Gains (S.state state.now) p.0 p.1)) }
+    ensures { IfOk result (λ found. MatchOption found (NoneGains (S.state state.now)) (λ p. Gains (S.state state.now) p.0 p.1)) }
 {
     match best_pair(state, groups, partner) {
         Some(pair) => Ok(Some(pair)),
@@ -101,7 +101,7 @@ fn best_pair<S: Situation>(
 
 /// A free pair of positive weight, if there is one.
 fn any_pair<S: Situation>(alloc: Global, state: &S) -> Result<Option<(Vertex, Vertex)>, AllocError>
-    ensures { IfOk result (λ found. MatchOption found (IsJoined (S.state state.now)) (λ p. Gains (S.state state.now) p.0 p.1)) }
+    ensures { IfOk result (λ found. MatchOption found (NoneGains (S.state state.now)) (λ p. Gains (S.state state.now) p.0 p.1)) }
 {
     let pairs = state.free_pairs(alloc)?;
     for pair in pairs.as_slice() {

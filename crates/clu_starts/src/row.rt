@@ -7,7 +7,7 @@ ghost use Rattle.clu_partition.specs.Pairs.{weight_of};
 ghost use Rattle.clu_partition.specs.Partition.{below, block_count_of};
 ghost use Rattle.clu_partition.specs.Closed.{IsClosed, IsPermitted};
 ghost use Rattle.clu_starts.specs.Settled.{IsInside};
-ghost use Rattle.clu_starts.specs.Row.{beyond, from_one, row_weight, IsRoomy, HasGrown, AreWithin, IsChosen, IsGreatest, IsFirst, IsRow, IsWhole, Bars};
+ghost use Rattle.clu_starts.specs.Row.{beyond, weights_from, row_weight, IsRoomy, HasGrown, LabelsFit, IsBestCell, IsGreatestCell, IsFirstBetter, IsLabelRow, KeepsGroups, Bars};
 
 use clu_partition::{PairTable, Partition, Start, Vertex};
 use std::alloc::{AllocError, Global};
@@ -36,11 +36,11 @@ impl Row {
         requires closed { IsClosed start.now }
         requires labels { length p.now ≡ pairs.now.n }
         requires keys { length keys.now ≡ pairs.now.n }
-        requires whole { IsWhole start.now (slice_index keys.now) }
+        requires whole { KeepsGroups start.now (slice_index keys.now) }
         requires permitted { IsPermitted start.now (slice_index p.now) }
         requires inside { IsInside pairs.now.n (slice_index keys.now) key (slice_index p.now) own }
         ensures small { IfOk result (λ _. block_count_of p.now < 2 ^ 32) }
-        ensures row { IfOk result (λ row. IsRow pairs.now start.now (slice_index keys.now) key (slice_index p.now)
+        ensures row { IfOk result (λ row. IsLabelRow pairs.now start.now (slice_index keys.now) key (slice_index p.now)
             (block_count_of p.now + 1) row.sums.items row.barred.items) }
     {
         let size = p.block_count() as usize + 1;
@@ -77,7 +77,7 @@ pub(crate) fn add_row(
 )
     requires labels { length labels.now ≡ pairs.now.n }
     requires keys { length keys.now ≡ pairs.now.n }
-    requires within { AreWithin (length sums.old.items) labels.now }
+    requires within { LabelsFit (length sums.old.items) labels.now }
     requires room { IsRoomy 0 sums.old.items }
     ensures grown { HasGrown (λ c. row_weight (weight_of pairs.now) (slice_index keys.now) key (slice_index labels.now) c (below pairs.now.n)) sums.old.items sums.new.items }
 {
@@ -90,9 +90,9 @@ pub(crate) fn add_row(
 pub(crate) fn bar_row(start: &Start, labels: &[u32], keys: &[u32], key: u32, barred: &mut Vec<bool>)
     requires labels { length labels.now ≡ length start.now.group }
     requires keys { length keys.now ≡ length start.now.group }
-    requires whole { IsWhole start.now (slice_index keys.now) }
+    requires whole { KeepsGroups start.now (slice_index keys.now) }
     requires permitted { IsPermitted start.now (slice_index labels.now) }
-    requires within { AreWithin (length barred.old.items) labels.now }
+    requires within { LabelsFit (length barred.old.items) labels.now }
     ensures { Bars start.now (slice_index keys.now) key (slice_index labels.now) (λ x z. (x < length start.now.group) × (z < length start.now.group)) barred.old.items barred.new.items }
 {
     for u in 0..start.n() {
@@ -113,10 +113,10 @@ fn add_vertex(
     requires keys { length keys.now ≡ pairs.now.n }
     requires small { pairs.now.n ≤ 1000 }
     requires first { u < pairs.now.n }
-    requires within { AreWithin (length sums.old.items) labels.now }
+    requires within { LabelsFit (length sums.old.items) labels.now }
     requires room { IsRoomy (1000 * u) sums.old.items }
     ensures room { IsRoomy (1000 * (u + 1)) sums.new.items }
-    ensures grown { HasGrown (λ c. from_one (weight_of pairs.now) (slice_index keys.now) key (slice_index labels.now) c (below pairs.now.n) u) sums.old.items sums.new.items }
+    ensures grown { HasGrown (λ c. weights_from (weight_of pairs.now) (slice_index keys.now) key (slice_index labels.now) c (below pairs.now.n) u) sums.old.items sums.new.items }
 {
     if keys[u as usize] != key {
         return;
@@ -131,10 +131,10 @@ fn bar_vertex(start: &Start, labels: &[u32], keys: &[u32], key: u32, u: u32, bar
     requires closed { IsClosed start.now }
     requires labels { length labels.now ≡ length start.now.group }
     requires keys { length keys.now ≡ length start.now.group }
-    requires whole { IsWhole start.now (slice_index keys.now) }
+    requires whole { KeepsGroups start.now (slice_index keys.now) }
     requires first { u < length start.now.group }
     requires permitted { IsPermitted start.now (slice_index labels.now) }
-    requires within { AreWithin (length barred.old.items) labels.now }
+    requires within { LabelsFit (length barred.old.items) labels.now }
     ensures { Bars start.now (slice_index keys.now) key (slice_index labels.now) (λ x z. (x ≡ u) × (z < length start.now.group)) barred.old.items barred.new.items }
 {
     if keys[u as usize] != key {
@@ -160,7 +160,7 @@ fn add_pair(
     requires small { pairs.now.n ≤ 1000 }
     requires first { u < pairs.now.n }
     requires second { v < pairs.now.n }
-    requires within { AreWithin (length sums.old.items) labels.now }
+    requires within { LabelsFit (length sums.old.items) labels.now }
     requires room { IsRoomy (1000 * u + v) sums.old.items }
     ensures room { IsRoomy (1000 * u + (v + 1)) sums.new.items }
     ensures grown { HasGrown (λ c. beyond (weight_of pairs.now) (slice_index keys.now) key (slice_index labels.now) c u v) sums.old.items sums.new.items }
@@ -187,12 +187,12 @@ fn bar_pair(
     requires closed { IsClosed start.now }
     requires labels { length labels.now ≡ length start.now.group }
     requires keys { length keys.now ≡ length start.now.group }
-    requires whole { IsWhole start.now (slice_index keys.now) }
+    requires whole { KeepsGroups start.now (slice_index keys.now) }
     requires first { u < length start.now.group }
     requires second { v < length start.now.group }
     requires inside { slice_index keys.now u ≡ key }
     requires permitted { IsPermitted start.now (slice_index labels.now) }
-    requires within { AreWithin (length barred.old.items) labels.now }
+    requires within { LabelsFit (length barred.old.items) labels.now }
     ensures { Bars start.now (slice_index keys.now) key (slice_index labels.now) (λ x z. (x ≡ u) × (z ≡ v)) barred.old.items barred.new.items }
 {
     if keys[v as usize] == key {
@@ -208,8 +208,8 @@ fn bar_pair(
 pub(crate) fn best_label(sums: &[i128], barred: &[bool], own: usize) -> usize
     requires size { length barred.now ≡ length sums.now }
     requires own { own < length sums.now }
-    ensures chosen { IsChosen sums.now barred.now own result }
-    ensures greatest { slice_index_or barred.now own false ≡ false → IsGreatest sums.now barred.now result }
+    ensures chosen { IsBestCell sums.now barred.now own result }
+    ensures greatest { slice_index_or barred.now own false ≡ false → IsGreatestCell sums.now barred.now result }
 {
     let mut best = own;
     for c in 0..sums.len() {
@@ -224,8 +224,8 @@ pub(crate) fn best_label(sums: &[i128], barred: &[bool], own: usize) -> usize
 pub(crate) fn first_label(sums: &[i128], barred: &[bool], own: usize) -> usize
     requires size { length barred.now ≡ length sums.now }
     requires own { own < length sums.now }
-    ensures chosen { IsChosen sums.now barred.now own result }
-    ensures first { IsFirst sums.now barred.now own result }
+    ensures chosen { IsBestCell sums.now barred.now own result }
+    ensures first { IsFirstBetter sums.now barred.now own result }
 {
     for c in 0..sums.len() {
         if is_better(sums, barred, own, c) {

@@ -5,8 +5,8 @@
 ghost use Rattle.std.specs.Prelude.{◌≡◌, ◌≢◌, ◌<◌, ◌≤◌, ◌≤ℤ◌, ℕ, true, false, IfOk, MatchOption, length, slice_index};
 ghost use Rattle.clu_partition.specs.Closed.{IsClosed, IsPermitted};
 ghost use Rattle.clu_partition.specs.Partition.{block_count_of};
-ghost use Rattle.clu_starts.specs.Row.{IsWhole};
-ghost use Rattle.clu_starts.specs.Settled.{worth, IsSettled, IsAtRest, IsGain, IsStarted, AreMoves, AreJoins, IsWalked};
+ghost use Rattle.clu_starts.specs.Row.{KeepsGroups};
+ghost use Rattle.clu_starts.specs.Settled.{whole_value, IsSettled, IsAtRest, IsImprovement, IsStarted, MovesRest, JoinsRest, IsWalked};
 
 use crate::step::{join_block, move_set};
 use clu_partition::{PairTable, Partition, Start, Vertex};
@@ -27,7 +27,7 @@ pub fn polish(
     requires permitted { IsPermitted start.now (slice_index p) }
     ensures size { IfOk result (λ q. length q ≡ pairs.now.n) }
     ensures settled { IfOk result (λ q. IsSettled pairs.now start.now (slice_index q)) }
-    ensures no_less { IfOk result (λ q. worth pairs.now (slice_index p) ≤ℤ worth pairs.now (slice_index q)) }
+    ensures no_less { IfOk result (λ q. whole_value pairs.now (slice_index p) ≤ℤ whole_value pairs.now (slice_index q)) }
 {
     // for the prover: the rules are closed
     let _n = start.n();
@@ -74,7 +74,7 @@ fn walk(
 ) -> Result<Walked, AllocError>
     requires started { IsStarted pairs.now start.now p }
     requires keys { keys.now ≡ start.now.group }
-    ensures { IfOk result (λ w. IsWalked pairs.now start.now (AreMoves pairs.now start.now pairs.now.n) p w.p w.moved) }
+    ensures { IfOk result (λ w. IsWalked pairs.now start.now (MovesRest pairs.now start.now pairs.now.n) p w.p w.moved) }
 {
     let mut now = p;
     let mut moved = false;
@@ -102,7 +102,7 @@ fn move_group(
     requires vertex { v < pairs.now.n }
     ensures { IfOk result (λ found. MatchOption found
         (slice_index start.now.group v ≡ v → IsAtRest pairs.now start.now (slice_index start.now.group) v (slice_index p.now))
-        (λ q. IsGain pairs.now start.now (slice_index p.now) q)) }
+        (λ q. IsImprovement pairs.now start.now (slice_index p.now) q)) }
 {
     if keys[v as usize] != v {
         return Ok(None);
@@ -121,8 +121,8 @@ fn join(
 ) -> Result<Option<Partition>, AllocError>
     requires started { IsStarted pairs.now start.now p.now }
     ensures { IfOk result (λ found. MatchOption found
-        (AreJoins pairs.now start.now (block_count_of p.now) (slice_index p.now))
-        (λ q. IsGain pairs.now start.now (slice_index p.now) q)) }
+        (JoinsRest pairs.now start.now (block_count_of p.now) (slice_index p.now))
+        (λ q. IsImprovement pairs.now start.now (slice_index p.now) q)) }
 {
     for block in 0..p.block_count() {
         if let Some(q) = join_block(alloc, pairs, start, p, block)? {

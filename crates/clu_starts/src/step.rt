@@ -4,8 +4,8 @@
 ghost use Rattle.std.specs.Prelude.{◌≡◌, ◌≢◌, ◌<◌, ◌≤◌, ◌≤ℤ◌, ◌+ℤ◌, pos, ℕ, false, IfOk, MatchOption, length, slice_index};
 ghost use Rattle.clu_partition.specs.Closed.{IsClosed, IsPermitted};
 ghost use Rattle.clu_partition.specs.Partition.{SameBlocks, block_count_of};
-ghost use Rattle.clu_starts.specs.Row.{IsWhole};
-ghost use Rattle.clu_starts.specs.Settled.{moved, AreAlike, IsAtRest, IsBetter, IsGain, IsInside};
+ghost use Rattle.clu_starts.specs.Row.{KeepsGroups};
+ghost use Rattle.clu_starts.specs.Settled.{moved, SameBlocksBelow, IsAtRest, IsBetter, IsImprovement, IsInside};
 
 use crate::row::{Row, best_label, first_label};
 use clu_partition::{PairTable, Partition, Start};
@@ -27,12 +27,12 @@ pub(crate) fn move_set(
     requires closed { IsClosed start.now }
     requires labels { length p.now ≡ pairs.now.n }
     requires keys { length keys.now ≡ pairs.now.n }
-    requires whole { IsWhole start.now (slice_index keys.now) }
+    requires whole { KeepsGroups start.now (slice_index keys.now) }
     requires permitted { IsPermitted start.now (slice_index p.now) }
     requires inside { IsInside pairs.now.n (slice_index keys.now) key (slice_index p.now) own }
     requires own { own < block_count_of p.now }
     ensures { IfOk result (λ found. MatchOption found (IsAtRest pairs.now start.now (slice_index keys.now) key (slice_index p.now))
-        (λ q. IsGain pairs.now start.now (slice_index p.now) q)) }
+        (λ q. IsImprovement pairs.now start.now (slice_index p.now) q)) }
 {
     let row = Row::new(alloc, pairs, start, p, keys, key, own)?;
     let target = best_label(&row.sums, &row.barred, own as usize) as u32;
@@ -59,7 +59,7 @@ pub(crate) fn join_block(
     requires permitted { IsPermitted start.now (slice_index p.now) }
     requires block { block < block_count_of p.now }
     ensures { IfOk result (λ found. MatchOption found (IsAtRest pairs.now start.now (slice_index p.now) block (slice_index p.now))
-        (λ q. IsGain pairs.now start.now (slice_index p.now) q)) }
+        (λ q. IsImprovement pairs.now start.now (slice_index p.now) q)) }
 {
     let labels = p.labels();
     let row = Row::new(alloc, pairs, start, p, labels, block, block)?;
@@ -82,7 +82,7 @@ fn after_move(
     requires size { length keys.now ≡ length p.now }
     requires few { length p.now ≤ 1000 }
     ensures size { IfOk result (λ q. length q ≡ length p.now) }
-    ensures alike { IfOk result (λ q. AreAlike (length p.now) (moved (slice_index keys.now) key target (slice_index p.now)) (slice_index q)) }
+    ensures alike { IfOk result (λ q. SameBlocksBelow (length p.now) (moved (slice_index keys.now) key target (slice_index p.now)) (slice_index q)) }
 {
     let labels = p.labels();
     let mut list: Vec<u32> = Vec::with_capacity(alloc, labels.len())?;

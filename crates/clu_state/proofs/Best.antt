@@ -3,7 +3,7 @@ use Rattle.std.proofs.Common.{ℕ, ℤ, ◌≤ℤ◌}
 use Rattle.std.proofs.lemmas.List.Elements.{All-push}
 use Rattle.clu_partition.specs.Pairs.{weight_of}
 use Rattle.clu_partition.specs.Values.{value_on}
-use Rattle.clu_state.specs.State.{State, InClass, Obeys, decided}
+use Rattle.clu_state.specs.State.{State, InClass, ObeysDecision, decided}
 use Rattle.clu_state.specs.declared.decision.Decision.{Decision}
 
 -- the value of a partition on the state's members
@@ -21,5 +21,5 @@ pub record KeepsBest (s : State) (d : Decision) : Type 0 where
   pub after : (label : ℕ → ℕ) → InClass s label → AsGood (decided s d) (worth s label)
 
 -- a partition that obeys a decision is of the class after it
-pub in_after : (s : State) (d : Decision) (label : ℕ → ℕ) → InClass s label → Obeys label d → InClass (decided s d) label
-in_after s d label c o = record { required = c.required; forbidden = c.forbidden; decisions = All-push (Obeys label) s.decisions d c.decisions o }
+pub in_after : (s : State) (d : Decision) (label : ℕ → ℕ) → InClass s label → ObeysDecision label d → InClass (decided s d) label
+in_after s d label c o = record { required = c.required; forbidden = c.forbidden; decisions = All-push (ObeysDecision label) s.decisions d c.decisions o }

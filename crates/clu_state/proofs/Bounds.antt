@@ -5,7 +5,7 @@ use Rattle.std.proofs.lemmas.Bool.{cases_eq}
 use Rattle.std.specs.List.{range_with_len}
 use Rattle.clu_partition.specs.Sums.{total, pair_total, only_if}
 use Rattle.clu_partition.specs.Values.{value_on}
-use Rattle.clu_partition.specs.Groups.{leaders, block, between}
+use Rattle.clu_partition.specs.Groups.{leaders, group_members, between}
 use Rattle.clu_partition.proofs.SumLaws.{Each, Among, Rising, total_least, pair_least, zero_least, only_least, pair_le}
 use Rattle.clu_partition.proofs.Regroup.{AreGroups, value_split, leaders_rising, each_filter, between_sym}
 use Rattle.clu_partition.proofs.TakeOut.{TwoOut, two_out, out_pairs}
@@ -78,12 +78,12 @@ between_small w s group members n g below a b ma mb d =
     let l = leaders group members in
     let z = size_of w in
     let zs : ((x y : ℕ) → size_of w x y ≡ size_of w y x) = λ x y. ap (λ k. pos (unsigned_abs k)) (s x y) in
-    let near : Within (between w group members a b) (between (size_of w) group members a b) = total_within (λ u. total (w u) (block group members b)) (λ u. total (size_of w u) (block group members b)) (block group members a) (λ u. total_within (w u) (size_of w u) (block group members b) (λ v. within_size (w u v))) in
+    let near : Within (between w group members a b) (between (size_of w) group members a b) = total_within (λ u. total (w u) (group_members group members b)) (λ u. total (size_of w u) (group_members group members b)) (group_members group members a) (λ u. total_within (w u) (size_of w u) (group_members group members b) (λ v. within_size (w u v))) in
     let split = value_split (size_of w) zs (λ _. 0) group members g (each_map (λ v. v < n) (λ _. 0 ≡ 0) members (λ _ _. refl) below) in
     let inside = pair_least (λ u v. only_if (group u == group v) (size_of w u v)) members (λ u v. only_least (group u == group v) (unsigned_abs (w u v))) in
     let o : TwoOut (leaders group members) a b = two_out (leaders group members) a b (leaders_rising group members g) ma mb d in
     let pairs = out_pairs (between (size_of w) group members) (λ x y. between_sym (size_of w) zs group members x y) (leaders group members) a b o in
-    let pl : ((x y : ℕ) → pos 0 ≤ℤ between (size_of w) group members x y) = λ x y. total_least (λ u. total (size_of w u) (block group members y)) (block group members x) (λ u. total_least (size_of w u) (block group members y) (λ v. zero_least (unsigned_abs (w u v)))) in
+    let pl : ((x y : ℕ) → pos 0 ≤ℤ between (size_of w) group members x y) = λ x y. total_least (λ u. total (size_of w u) (group_members group members y)) (group_members group members x) (λ u. total_least (size_of w u) (group_members group members y) (λ v. zero_least (unsigned_abs (w u v)))) in
     let one = total_least (between (size_of w) group members a) o.rest (pl a) in
     let two = total_least (between (size_of w) group members b) o.rest (pl b) in
     let three = pair_least (between (size_of w) group members) o.rest pl in
@@ -111,7 +111,7 @@ value_small w s group members n g below =
     let zs : ((x y : ℕ) → size_of w x y ≡ size_of w y x) = λ x y. ap (λ k. pos (unsigned_abs k)) (s x y) in
     let near = pair_within (λ u v. only_if (group u == group v) (w u v)) (λ u v. only_if (group u == group v) (size_of w u v)) members (λ u v. only_within (group u == group v) (w u v)) in
     let split = value_split (size_of w) zs (λ _. 0) group members g (each_map (λ v. v < n) (λ _. 0 ≡ 0) members (λ _ _. refl) below) in
-    let pl : ((x y : ℕ) → pos 0 ≤ℤ between (size_of w) group members x y) = λ x y. total_least (λ u. total (size_of w u) (block group members y)) (block group members x) (λ u. total_least (size_of w u) (block group members y) (λ v. zero_least (unsigned_abs (w u v)))) in
+    let pl : ((x y : ℕ) → pos 0 ≤ℤ between (size_of w) group members x y) = λ x y. total_least (λ u. total (size_of w u) (group_members group members y)) (group_members group members x) (λ u. total_least (size_of w u) (group_members group members y) (λ v. zero_least (unsigned_abs (w u v)))) in
     let three = pair_least (between (size_of w) group members) (leaders group members) pl in
     let all : Each (λ x. (0 ≤ x) × (x < 0 + n)) members = each_map (λ v. v < n) (λ x. (0 ≤ x) × (x < 0 + n)) members (λ x h. (omega arith, omega (arith, h))) below in
     let four = sub_pairs (size_of w) (λ x y. zero_least (unsigned_abs (w x y))) n 0 members g.rising all in
@@ -130,7 +130,7 @@ whole_small w s group members n g below =
     let zs : ((x y : ℕ) → size_of w x y ≡ size_of w y x) = λ x y. ap (λ k. pos (unsigned_abs k)) (s x y) in
     let near = pair_within (λ u v. only_if (group u == group v) (w u v)) (λ u v. only_if (group u == group v) (size_of w u v)) members (λ u v. only_within (group u == group v) (w u v)) in
     let terms = pair_le (size_of (between w group members)) (between (size_of w) group members) (λ _. Unit {0}) (leaders group members) (every (leaders group members)) (λ a b _ _. size_most (between w group members a b) (between (size_of w) group members a b)
-    (total_within (λ u. total (w u) (block group members b)) (λ u. total (size_of w u) (block group members b)) (block group members a) (λ u. total_within (w u) (size_of w u) (block group members b) (λ v. within_size (w u v))))) in
+    (total_within (λ u. total (w u) (group_members group members b)) (λ u. total (size_of w u) (group_members group members b)) (group_members group members a) (λ u. total_within (w u) (size_of w u) (group_members group members b) (λ v. within_size (w u v))))) in
     let split = value_split (size_of w) zs (λ _. 0) group members g (each_map (λ v. v < n) (λ _. 0 ≡ 0) members (λ _ _. refl) below) in
     let all : Each (λ x. (0 ≤ x) × (x < 0 + n)) members = each_map (λ v. v < n) (λ x. (0 ≤ x) × (x < 0 + n)) members (λ x h. (omega arith, omega (arith, h))) below in
     let four = sub_pairs (size_of w) (λ x y. zero_least (unsigned_abs (w x y))) n 0 members g.rising all in

@@ -5,14 +5,14 @@ use Rattle.std.proofs.lemmas.List.Elements.{All-drop}
 use Rattle.clu_partition.specs.Sums.{total, pair_total, only_if}
 use Rattle.clu_partition.specs.Grids.{IsGrid}
 use Rattle.clu_partition.specs.Pairs.{Pairs, weight_of, with_weight, are_pair}
-use Rattle.clu_state.specs.Building.{GrownBy, share, kept, size_between, HasHome, HasRoom}
+use Rattle.clu_state.specs.Building.{GrownBy, weight_between, weight_within, size_between, HasHome, HasRoom}
 use Rattle.clu_partition.proofs.PairLaws.{not_pair, added}
 use Rattle.clu_partition.proofs.ListLaws.{tail_is}
 use Rattle.clu_partition.proofs.SumLaws.{zero_least, total_least, pair_least}
 
 -- ---- one more pair
 pub pair_added : (t old new : Pairs) (at' : ℕ → ℕ) (u v p q x z : ℕ) (k w : ℤ) → IsGrid old → p < old.n → q < old.n → x < old.n → z < old.n → x ≢ z →
-    p ≡ at' u → q ≡ at' v → k ≡ weight_of t u v → w ≡ weight_of old p q +ℤ k → new ≡ with_weight old p q w → weight_of new x z ≡ weight_of old x z +ℤ share (weight_of t) at' x z u v
+    p ≡ at' u → q ≡ at' v → k ≡ weight_of t u v → w ≡ weight_of old p q +ℤ k → new ≡ with_weight old p q w → weight_of new x z ≡ weight_of old x z +ℤ weight_between (weight_of t) at' x z u v
 pair_added t old new at' u v p q x z k w l lp lq lx lz d ep eq' ek ew en =
     added old new p q x z k w l lp lq lx lz d ew en ∙
     ap (λ c. weight_of old x z +ℤ only_if (are_pair c q x z) k) ep ∙
@@ -20,7 +20,7 @@ pair_added t old new at' u v p q x z k w l lp lq lx lz d ep eq' ek ew en =
     ap (λ c. weight_of old x z +ℤ only_if (are_pair (at' u) (at' v) x z) c) ek
 
 -- two vertices of one group share nothing with two places
-pub pair_inside : (t old : Pairs) (at' : ℕ → ℕ) (u v x z : ℕ) → at' u ≡ at' v → x ≢ z → weight_of old x z ≡ weight_of old x z +ℤ share (weight_of t) at' x z u v
+pub pair_inside : (t old : Pairs) (at' : ℕ → ℕ) (u v x z : ℕ) → at' u ≡ at' v → x ≢ z → weight_of old x z ≡ weight_of old x z +ℤ weight_between (weight_of t) at' x z u v
 pair_inside t old at' u v x z e d = nothing (weight_of old x z) ∙ ap (λ c. weight_of old x z +ℤ only_if c (weight_of t u v)) (sym (not_pair (at' u) (at' v) x z (λ k. d (sym k.0 ∙ e ∙ k.1)) (λ k. d (sym k.1 ∙ sym e ∙ k.0))))
   where
     nothing : (t : ℤ) → t ≡ t +ℤ pos 0
@@ -50,10 +50,10 @@ only_small : (b : Bool) (w : ℤ) → pos (unsigned_abs (only_if b w)) ≤ℤ po
 only_small true w = omega (arith, ints)
 only_small false w = omega (arith, ints)
 
-pub share_small : (t : Pairs) (at' : ℕ → ℕ) (x z u v : ℕ) → pos (unsigned_abs (share (weight_of t) at' x z u v)) ≤ℤ size_between t u v
+pub share_small : (t : Pairs) (at' : ℕ → ℕ) (x z u v : ℕ) → pos (unsigned_abs (weight_between (weight_of t) at' x z u v)) ≤ℤ size_between t u v
 share_small t at' x z u v = only_small (are_pair (at' u) (at' v) x z) (weight_of t u v)
 
-pub kept_small : (t : Pairs) (at' : ℕ → ℕ) (u v : ℕ) → pos (unsigned_abs (kept (weight_of t) at' u v)) ≤ℤ size_between t u v
+pub kept_small : (t : Pairs) (at' : ℕ → ℕ) (u v : ℕ) → pos (unsigned_abs (weight_within (weight_of t) at' u v)) ≤ℤ size_between t u v
 kept_small t at' u v = only_small (at' u == at' v) (weight_of t u v)
 
 pub totals_small : (f h : ℕ → ℤ) → ((v : ℕ) → pos (unsigned_abs (f v)) ≤ℤ h v) → (vs : List ℕ) → pos (unsigned_abs (total f vs)) ≤ℤ total h vs
@@ -109,8 +109,8 @@ filled old now new sum sum' result k k' inside e m m' f f' whole shares g l t es
 -- ---- one vertex with a list
 abbrev pub WithLeft : Pairs → Pairs → (ℕ → ℕ) → ℕ → List ℕ → ℕ → Pairs → ℤ → Type 0
 WithLeft t old at' u vs i now sum = Filling old now sum
-    (λ x z. total (share (weight_of t) at' x z u) (drop i vs)) (λ x z. total (share (weight_of t) at' x z u) vs)
-    (total (kept (weight_of t) at' u) (drop i vs)) (total (kept (weight_of t) at' u) vs)
+    (λ x z. total (weight_between (weight_of t) at' x z u) (drop i vs)) (λ x z. total (weight_between (weight_of t) at' x z u) vs)
+    (total (weight_within (weight_of t) at' u) (drop i vs)) (total (weight_within (weight_of t) at' u) vs)
     (total (size_between t u) (drop i vs))
 
 pub room_less : (t : Pairs) (m k : ℤ) → HasRoom t m → k ≤ℤ m → HasRoom t k
@@ -121,8 +121,8 @@ with_room t old now at' u v i vs sum l b e = room_less now (total (size_between 
     (let d = total_drop (size_between t u) vs i v b e in let m = sizes_least t u (drop (i + 1) vs) in omega (arith, ints, d, m))
 
 pair_step : (t now new : Pairs) (at' : ℕ → ℕ) (u v : ℕ) (r : ℤ) → new.n ≡ now.n →
-    GrownBy (λ x z. share (weight_of t) at' x z u v) now new → r ≡ kept (weight_of t) at' u v →
-    Step now new (λ x z. share (weight_of t) at' x z u v) r (kept (weight_of t) at' u v) (size_between t u v)
+    GrownBy (λ x z. weight_between (weight_of t) at' x z u v) now new → r ≡ weight_within (weight_of t) at' u v →
+    Step now new (λ x z. weight_between (weight_of t) at' x z u v) r (weight_within (weight_of t) at' u v) (size_between t u v)
 pair_step t now new at' u v r n s e = record {
   same = n;
   sums = s;
@@ -132,13 +132,13 @@ pair_step t now new at' u v r n s e = record {
 }
 
 pub with_more : (t old now new : Pairs) (at' : ℕ → ℕ) (u v i : ℕ) (vs : List ℕ) (sum sum' r : ℤ) → WithLeft t old at' u vs i now sum → i < length vs → v ≡ get_or vs i v → new.n ≡ now.n →
-    GrownBy (λ x z. share (weight_of t) at' x z u v) now new → r ≡ kept (weight_of t) at' u v → sum' ≡ sum +ℤ r →
+    GrownBy (λ x z. weight_between (weight_of t) at' x z u v) now new → r ≡ weight_within (weight_of t) at' u v → sum' ≡ sum +ℤ r →
     WithLeft t old at' u vs (i + 1) new sum'
 with_more t old now new at' u v i vs sum sum' r l b e n s k es =
-    filled old now new sum sum' r _ _ _ _ _ _ _ _ _ (λ x z. share (weight_of t) at' x z u v) _ l (pair_step t now new at' u v r n s k) es
-    (λ x z. total_drop (share (weight_of t) at' x z u) vs i v b e) (total_drop (kept (weight_of t) at' u) vs i v b e) (total_drop (size_between t u) vs i v b e)
+    filled old now new sum sum' r _ _ _ _ _ _ _ _ _ (λ x z. weight_between (weight_of t) at' x z u v) _ l (pair_step t now new at' u v r n s k) es
+    (λ x z. total_drop (weight_between (weight_of t) at' x z u) vs i v b e) (total_drop (weight_within (weight_of t) at' u) vs i v b e) (total_drop (size_between t u) vs i v b e)
 
-pub with_small : (t old now : Pairs) (at' : ℕ → ℕ) (u v i : ℕ) (vs : List ℕ) (sum r : ℤ) → WithLeft t old at' u vs i now sum → i < length vs → v ≡ get_or vs i v → r ≡ kept (weight_of t) at' u v →
+pub with_small : (t old now : Pairs) (at' : ℕ → ℕ) (u v i : ℕ) (vs : List ℕ) (sum r : ℤ) → WithLeft t old at' u vs i now sum → i < length vs → v ≡ get_or vs i v → r ≡ weight_within (weight_of t) at' u v →
     unsigned_abs (sum +ℤ r) ≤ 2 ^ 88
 with_small t old now at' u v i vs sum r l b e k =
     let a = l.small in
@@ -157,8 +157,8 @@ later_homes n old now group place vs i e h = subst (λ m. All (HasHome n m group
 
 abbrev pub PairsLeft : Pairs → Pairs → (ℕ → ℕ) → List ℕ → ℕ → Pairs → ℤ → Type 0
 PairsLeft t old at' vs i now sum = Filling old now sum
-    (λ x z. pair_total (share (weight_of t) at' x z) (drop i vs)) (λ x z. pair_total (share (weight_of t) at' x z) vs)
-    (pair_total (kept (weight_of t) at') (drop i vs)) (pair_total (kept (weight_of t) at') vs)
+    (λ x z. pair_total (weight_between (weight_of t) at' x z) (drop i vs)) (λ x z. pair_total (weight_between (weight_of t) at' x z) vs)
+    (pair_total (weight_within (weight_of t) at') (drop i vs)) (pair_total (weight_within (weight_of t) at') vs)
     (pair_total (size_between t) (drop i vs))
 
 pub pairs_room : (t old now : Pairs) (at' : ℕ → ℕ) (u i : ℕ) (vs : List ℕ) (sum : ℤ) → PairsLeft t old at' vs i now sum → i < length vs → u ≡ get_or vs i u → HasRoom now (total (size_between t u) (later i vs))
@@ -170,30 +170,30 @@ pairs_few t old now at' u i vs sum l b e =
     let a = l.small in let d = pairs_drop (size_between t) vs i u b e in let m = pair_sizes_least t (drop (i + 1) vs) in let f = ap (total (size_between t u)) (tail_is (i + 1) vs) in omega (arith, ints, a, d, m, f)
 
 list_step : (t now new : Pairs) (at' : ℕ → ℕ) (u : ℕ) (ws : List ℕ) (r : ℤ) → new.n ≡ now.n →
-    GrownBy (λ x z. total (share (weight_of t) at' x z u) ws) now new → r ≡ total (kept (weight_of t) at' u) ws →
-    Step now new (λ x z. total (share (weight_of t) at' x z u) ws) r (total (kept (weight_of t) at' u) ws) (total (size_between t u) ws)
+    GrownBy (λ x z. total (weight_between (weight_of t) at' x z u) ws) now new → r ≡ total (weight_within (weight_of t) at' u) ws →
+    Step now new (λ x z. total (weight_between (weight_of t) at' x z u) ws) r (total (weight_within (weight_of t) at' u) ws) (total (size_between t u) ws)
 list_step t now new at' u ws r n s e = record {
   same = n;
   sums = s;
   inside_is = e;
-  shares_small = λ x z. totals_small (share (weight_of t) at' x z u) (size_between t u) (share_small t at' x z u) ws;
-  inside_small = totals_small (kept (weight_of t) at' u) (size_between t u) (kept_small t at' u) ws;
+  shares_small = λ x z. totals_small (weight_between (weight_of t) at' x z u) (size_between t u) (share_small t at' x z u) ws;
+  inside_small = totals_small (weight_within (weight_of t) at' u) (size_between t u) (kept_small t at' u) ws;
 }
 
 pub pairs_more : (t old now new : Pairs) (at' : ℕ → ℕ) (u i : ℕ) (vs : List ℕ) (sum sum' r : ℤ) → PairsLeft t old at' vs i now sum → i < length vs → u ≡ get_or vs i u → new.n ≡ now.n →
-    GrownBy (λ x z. total (share (weight_of t) at' x z u) (later i vs)) now new → r ≡ total (kept (weight_of t) at' u) (later i vs) → sum' ≡ sum +ℤ r →
+    GrownBy (λ x z. total (weight_between (weight_of t) at' x z u) (later i vs)) now new → r ≡ total (weight_within (weight_of t) at' u) (later i vs) → sum' ≡ sum +ℤ r →
     PairsLeft t old at' vs (i + 1) new sum'
 pairs_more t old now new at' u i vs sum sum' r l b e n s k es =
-    filled old now new sum sum' r _ _ _ _ _ _ _ _ _ (λ x z. total (share (weight_of t) at' x z u) (later i vs)) _ l (list_step t now new at' u (later i vs) r n s k) es
-    (λ x z. pairs_drop (share (weight_of t) at' x z) vs i u b e ∙ ap (λ k. total (share (weight_of t) at' x z u) k +ℤ pair_total (share (weight_of t) at' x z) (drop (i + 1) vs)) (sym (tail_is (i + 1) vs)))
-    (pairs_drop (kept (weight_of t) at') vs i u b e ∙ ap (λ k. total (kept (weight_of t) at' u) k +ℤ pair_total (kept (weight_of t) at') (drop (i + 1) vs)) (sym (tail_is (i + 1) vs)))
+    filled old now new sum sum' r _ _ _ _ _ _ _ _ _ (λ x z. total (weight_between (weight_of t) at' x z u) (later i vs)) _ l (list_step t now new at' u (later i vs) r n s k) es
+    (λ x z. pairs_drop (weight_between (weight_of t) at' x z) vs i u b e ∙ ap (λ k. total (weight_between (weight_of t) at' x z u) k +ℤ pair_total (weight_between (weight_of t) at' x z) (drop (i + 1) vs)) (sym (tail_is (i + 1) vs)))
+    (pairs_drop (weight_within (weight_of t) at') vs i u b e ∙ ap (λ k. total (weight_within (weight_of t) at' u) k +ℤ pair_total (weight_within (weight_of t) at') (drop (i + 1) vs)) (sym (tail_is (i + 1) vs)))
     (pairs_drop (size_between t) vs i u b e ∙ ap (λ k. total (size_between t u) k +ℤ pair_total (size_between t) (drop (i + 1) vs)) (sym (tail_is (i + 1) vs)))
 
-pub pairs_small : (t old now : Pairs) (at' : ℕ → ℕ) (u i : ℕ) (vs : List ℕ) (sum r : ℤ) → PairsLeft t old at' vs i now sum → i < length vs → u ≡ get_or vs i u → r ≡ total (kept (weight_of t) at' u) (later i vs) →
+pub pairs_small : (t old now : Pairs) (at' : ℕ → ℕ) (u i : ℕ) (vs : List ℕ) (sum r : ℤ) → PairsLeft t old at' vs i now sum → i < length vs → u ≡ get_or vs i u → r ≡ total (weight_within (weight_of t) at' u) (later i vs) →
     unsigned_abs (sum +ℤ r) ≤ 2 ^ 88
 pairs_small t old now at' u i vs sum r l b e k =
     let a = l.small in
-    let c = totals_small (kept (weight_of t) at' u) (size_between t u) (kept_small t at' u) (later i vs) in
+    let c = totals_small (weight_within (weight_of t) at' u) (size_between t u) (kept_small t at' u) (later i vs) in
     let d = pairs_drop (size_between t) vs i u b e in
     let m = pair_sizes_least t (drop (i + 1) vs) in
     let f = ap (total (size_between t u)) (tail_is (i + 1) vs) in

@@ -12,12 +12,12 @@ use Rattle.clu_partition.specs.Values.{value_on}
 use Rattle.clu_partition.proofs.TableLaws.{weight_sym}
 use Rattle.clu_state.specs.declared.decision.Decision.{Decision}
 use Rattle.clu_state.specs.State.{IsState, AreMembers, undecided}
-use Rattle.clu_state.specs.Rebuilt.{Agrees}
+use Rattle.clu_state.specs.Rebuilt.{TablesAgree}
 use Rattle.clu_partition.specs.PairSets.{Chosen, has, with_pair}
 use Rattle.clu_partition.proofs.PairMerges.{put_here, put_other, has_turn}
 use Rattle.clu_state.proofs.Bridge.{each_from, rising_from_index}
 use Rattle.clu_state.proofs.Bounds.{members_small}
-use Rattle.clu_state.specs.Building.{ArePlaces, GrownBy, MarkedBy, home, share, kept, size_between, HasHome, HasRoom}
+use Rattle.clu_state.specs.Building.{ArePlaces, GrownBy, MarkedBy, home, weight_between, weight_within, size_between, HasHome, HasRoom}
 use Rattle.clu_state.proofs.Joined.{place_is, places_differ}
 use Rattle.clu_state.proofs.Gathered.{share_is, between_places, kept_is}
 use Rattle.clu_partition.proofs.PairLaws.{is_pair, not_pair, pair_cases}
@@ -117,11 +117,11 @@ joins_least group (p ∷ ps) a b l ea eb =
 pub built : (pairs : Pairs) (start : Closed) (members group place : List ℕ) (blank weights : Pairs) (none apart : Chosen) (fixed : ℤ) → IsState (undecided pairs start members) →
     group ≡ start.group → length place ≡ length start.group → ArePlaces members place →
     blank.n ≡ length members → ((u v : ℕ) → weight_of blank u v ≡ pos 0) → weights.n ≡ blank.n →
-    GrownBy (λ x z. pair_total (share (weight_of pairs) (home group place) x z) members) blank weights →
-    fixed ≡ pair_total (kept (weight_of pairs) (home group place)) members →
+    GrownBy (λ x z. pair_total (weight_between (weight_of pairs) (home group place) x z) members) blank weights →
+    fixed ≡ pair_total (weight_within (weight_of pairs) (home group place)) members →
     none.n ≡ length members → ((u v : ℕ) → has none u v ≡ false) → apart.n ≡ none.n →
     MarkedBy (joins (λ v. v) start.forbidden) members none apart →
-    Agrees (undecided pairs start members) group place weights apart fixed
+    TablesAgree (undecided pairs start members) group place weights apart fixed
 built pairs start members group place blank weights none apart fixed s eg lp at' zn zs wn sums inside nn ns an marks = record {
   state = s;
   few = let f = few_members start members s.members in let a = s.one_size in let b = s.small in omega (arith, f, a, b);
@@ -156,11 +156,11 @@ built pairs start members group place blank weights none apart fixed s eg lp at'
     inner : (v : ℕ) → Contains members v → Contains members (slice_index group v)
     inner v c = subst (λ (g : List ℕ). Contains members (slice_index g v)) (sym eg) (into start members v s.members c)
 
-pub built_as : (pairs : Pairs) (start : Closed) (members members' : List ℕ) (decisions : List Decision) (group group' place place' : List ℕ) (weights : Pairs) (apart : Chosen) (fixed fixed' : ℤ) → Agrees (undecided pairs start members) group place weights apart fixed →
-    members' ≡ members → decisions ≡ [] → group ≡ group' → place ≡ place' → fixed' ≡ fixed → Agrees (record { pairs = pairs; start = start; members = members'; decisions = decisions }) group' place' weights apart fixed'
+pub built_as : (pairs : Pairs) (start : Closed) (members members' : List ℕ) (decisions : List Decision) (group group' place place' : List ℕ) (weights : Pairs) (apart : Chosen) (fixed fixed' : ℤ) → TablesAgree (undecided pairs start members) group place weights apart fixed →
+    members' ≡ members → decisions ≡ [] → group ≡ group' → place ≡ place' → fixed' ≡ fixed → TablesAgree (record { pairs = pairs; start = start; members = members'; decisions = decisions }) group' place' weights apart fixed'
 built_as pairs start members members' decisions group group' place place' weights apart fixed fixed' a em ed eg ep ef =
-    subst (λ ms. Agrees (record { pairs = pairs; start = start; members = ms; decisions = decisions }) group' place' weights apart fixed') (sym em)
-    (subst (λ ds. Agrees (record { pairs = pairs; start = start; members = members; decisions = ds }) group' place' weights apart fixed') (sym ed)
-    (subst (λ (g : List ℕ). Agrees (undecided pairs start members) g place' weights apart fixed') eg
-    (subst (λ (p : List ℕ). Agrees (undecided pairs start members) group p weights apart fixed') ep
-    (subst (Agrees (undecided pairs start members) group place weights apart) (sym ef) a))))
+    subst (λ ms. TablesAgree (record { pairs = pairs; start = start; members = ms; decisions = decisions }) group' place' weights apart fixed') (sym em)
+    (subst (λ ds. TablesAgree (record { pairs = pairs; start = start; members = members; decisions = ds }) group' place' weights apart fixed') (sym ed)
+    (subst (λ (g : List ℕ). TablesAgree (undecided pairs start members) g place' weights apart fixed') eg
+    (subst (λ (p : List ℕ). TablesAgree (undecided pairs start members) group p weights apart fixed') ep
+    (subst (TablesAgree (undecided pairs start members) group place weights apart) (sym ef) a))))

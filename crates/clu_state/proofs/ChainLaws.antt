@@ -2,7 +2,7 @@
 use Rattle.std.proofs.Common.{zero, suc, slice_index_or, if◌then◌else◌, ◌==◌, ◌≡◌, ℕ, ◌<◌, ⊎_elim, min, max, List, [], ◌∷◌, length, slice_index, Contains, refl, sym, ap, ◌∙◌, subst, arith}
 use Rattle.std.proofs.lemmas.List.Elements.{All-contains, Contains-append_right, Contains-append_cases}
 use Rattle.clu_state.specs.State.{State, IsState, merged, groups_after, leader}
-use Rattle.clu_state.specs.Chains.{Tied, same, required, joined, back, chain, IsLeastTied}
+use Rattle.clu_state.specs.Chains.{Chained, same, required, joined, back, chain, IsLeastChained}
 use Rattle.clu_state.specs.declared.decision.Decision.{Decision}
 use Rattle.clu_state.specs.declared.decision.Decision.TheVariants.{Together, Apart}
 use Rattle.clu_state.proofs.GroupLaws.{state_groups, AllMembers, made_members}
@@ -11,16 +11,16 @@ use Rattle.clu_partition.proofs.TieLaws.{merged_equal, merged_ties}
 
 -- ---- a vertex is tied to its least vertex
 tied_after : (s : State) (ds : List Decision) (group : ℕ → ℕ) → ((d : Decision) → Contains ds d → Contains s.decisions d) → AllMembers s.members ds → ((v : ℕ) → Contains s.members v → v < length s.start.group) →
-    ((x : ℕ) → x < length s.start.group → Tied s (group x) x) → (x : ℕ) → x < length s.start.group → Tied s (groups_after group ds x) x
+    ((x : ℕ) → x < length s.start.group → Chained s (group x) x) → (x : ℕ) → x < length s.start.group → Chained s (groups_after group ds x) x
 unfolding AllMembers
 tied_after s [] group sub a below f x lx = f x lx
 tied_after s (Together u v ∷ ds) group sub a below f x lx =
     tied_after s ds (merged group u v) (λ d c. sub d (Contains-append_right (Together u v ∷ []) ds d c)) a.1 below
-    (merged_ties (Tied s) (λ _ _. back) (λ _ _ _. chain) (length s.start.group) group u v (joined (sub (Together u v) (0, omega arith, refl))) f (below u a.0.0) (below v a.0.1)) x lx
+    (merged_ties (Chained s) (λ _ _. back) (λ _ _ _. chain) (length s.start.group) group u v (joined (sub (Together u v) (0, omega arith, refl))) f (below u a.0.0) (below v a.0.1)) x lx
 tied_after s (Apart u v ∷ ds) group sub a below f x lx =
     tied_after s ds group (λ d c. sub d (Contains-append_right (Apart u v ∷ []) ds d c)) a.1 below f x lx
 
-pub leader_tied : (s : State) → IsState s → (x : ℕ) → x < length s.start.group → Tied s (leader s x) x
+pub leader_tied : (s : State) → IsState s → (x : ℕ) → x < length s.start.group → Chained s (leader s x) x
 leader_tied s i x l = tied_after s s.decisions (slice_index s.start.group) (λ d c. c) (made_members (record s { decisions = [] }) s.decisions i.made)
     (λ v c. All-contains (λ x. x < length s.start.group) s.members v i.members.below c) (λ y k. required k) x l
 
@@ -49,7 +49,7 @@ joined_equal (Apart a b ∷ ds) group u v c = ⊎_elim
     (λ r. joined_equal ds group u v r)
     (Contains-append_cases (Apart a b ∷ []) ds (Together u v) c)
 
-pub tied_equal : (s : State) → IsState s → {x y : ℕ} → Tied s x y → leader s x ≡ leader s y
+pub tied_equal : (s : State) → IsState s → {x y : ℕ} → Chained s x y → leader s x ≡ leader s y
 tied_equal s i same = refl
 tied_equal s i (required {v} l) = stays_equal s.decisions (slice_index s.start.group) (slice_index s.start.group v) v (i.closed.least v l)
 tied_equal s i (joined {u} {v} c) = joined_equal s.decisions (slice_index s.start.group) u v c
@@ -57,7 +57,7 @@ tied_equal s i (back t) = sym (tied_equal s i t)
 tied_equal s i (chain t r) = tied_equal s i t ∙ tied_equal s i r
 
 -- its least vertex is the least that is tied to a member
-pub least_tied : (s : State) → IsState s → (v : ℕ) → Contains s.members v → IsLeastTied s v (leader s v)
+pub least_tied : (s : State) → IsState s → (v : ℕ) → Contains s.members v → IsLeastChained s v (leader s v)
 least_tied s i v c = record {
   tied = leader_tied s i v below;
   least = λ u l t.

@@ -5,7 +5,7 @@ use Rattle.std.proofs.lemmas.List.Elements.{All-contains, All-head, All-tail, Al
 use Rattle.clu_partition.specs.Closed.{joins}
 use Rattle.clu_partition.specs.Groups.{leaders}
 use Rattle.clu_partition.proofs.SumLaws.{Each, Among}
-use Rattle.clu_state.specs.State.{State, IsState, InClass, Obeys, merged, groups_after, leader, are_apart, kept_apart, apart_decisions}
+use Rattle.clu_state.specs.State.{State, IsState, InClass, ObeysDecision, merged, groups_after, leader, are_apart, kept_apart, apart_decisions}
 use Rattle.clu_state.specs.declared.decision.Decision.{Decision}
 use Rattle.clu_state.specs.declared.decision.Decision.TheVariants.{Together, Apart}
 use Rattle.clu_state.proofs.GroupLaws.{Groups, state_groups, start_groups, merged_groups, AllMembers, made_members, merged_high, merged_other, max_either, min_either}
@@ -28,11 +28,11 @@ keeps_merged label group members u v cu cv e k = λ x c. ⊎_elim
     high : label (group u) ≡ label u → label (group v) ≡ label u → label (max (group u) (group v)) ≡ label u
     high p q = max_either (λ m. label m ≡ label u) (group u) (group v) p q
 
-keeps_after : (label group : ℕ → ℕ) (members : List ℕ) (ds : List Decision) → AllMembers members ds → All (Obeys label) ds → Keeps label group members → Keeps label (groups_after group ds) members
+keeps_after : (label group : ℕ → ℕ) (members : List ℕ) (ds : List Decision) → AllMembers members ds → All (ObeysDecision label) ds → Keeps label group members → Keeps label (groups_after group ds) members
 unfolding AllMembers
 keeps_after label group members [] a o k = k
-keeps_after label group members (Together u v ∷ ds) a o k = keeps_after label (merged group u v) members ds a.1 (All-tail (Obeys label) (Together u v) ds o) (keeps_merged label group members u v a.0.0 a.0.1 (All-head (Obeys label) (Together u v) ds o) k)
-keeps_after label group members (Apart u v ∷ ds) a o k = keeps_after label group members ds a.1 (All-tail (Obeys label) (Apart u v) ds o) k
+keeps_after label group members (Together u v ∷ ds) a o k = keeps_after label (merged group u v) members ds a.1 (All-tail (ObeysDecision label) (Together u v) ds o) (keeps_merged label group members u v a.0.0 a.0.1 (All-head (ObeysDecision label) (Together u v) ds o) k)
+keeps_after label group members (Apart u v ∷ ds) a o k = keeps_after label group members ds a.1 (All-tail (ObeysDecision label) (Apart u v) ds o) k
 
 pub class_keeps : (s : State) (label : ℕ → ℕ) → IsState s → InClass s label → (v : ℕ) → Contains s.members v → label (leader s v) ≡ label v
 unfolding Keeps
@@ -88,16 +88,16 @@ splits_from s label i c p l k n a b ca cb e f h =
     n ma mb (sym (class_keeps s label i c p.0 ma) ∙ ap label e ∙ class_keeps s label i c a ca ∙ h ∙ sym (class_keeps s label i c b cb) ∙ ap label (sym f) ∙ class_keeps s label i c p.1 mb)
 
 -- the apart pairs of decisions
-apart_split : (s : State) (label : ℕ → ℕ) → IsState s → InClass s label → (ds : List Decision) → AllMembers s.members ds → All (Obeys label) ds → All (Splits s label) (apart_decisions ds)
+apart_split : (s : State) (label : ℕ → ℕ) → IsState s → InClass s label → (ds : List Decision) → AllMembers s.members ds → All (ObeysDecision label) ds → All (Splits s label) (apart_decisions ds)
 unfolding AllMembers Splits
 apart_split s label i c [] a o = λ k d l. absurd (omega arith)
-apart_split s label i c (Together u v ∷ ds) a o = apart_split s label i c ds a.1 (All-tail (Obeys label) (Together u v) ds o)
+apart_split s label i c (Together u v ∷ ds) a o = apart_split s label i c ds a.1 (All-tail (ObeysDecision label) (Together u v) ds o)
 apart_split s label i c (Apart u v ∷ ds) a o = All-cons (Splits s label) (u, v) (apart_decisions ds)
     (splits_from s label i c (u, v)
     (All-contains (λ v. v < length s.start.group) s.members u i.members.below a.0.0)
     (All-contains (λ v. v < length s.start.group) s.members v i.members.below a.0.1)
-    (λ _ _. All-head (Obeys label) (Apart u v) ds o))
-    (apart_split s label i c ds a.1 (All-tail (Obeys label) (Apart u v) ds o))
+    (λ _ _. All-head (ObeysDecision label) (Apart u v) ds o))
+    (apart_split s label i c ds a.1 (All-tail (ObeysDecision label) (Apart u v) ds o))
 
 forbidden_split : (s : State) (label : ℕ → ℕ) → IsState s → InClass s label → (ps : List (ℕ × ℕ)) → All (λ p. (p.0 < length s.start.group) × (p.1 < length s.start.group)) ps →
     All (λ p. Contains s.members p.0 → Contains s.members p.1 → label p.0 ≢ label p.1) ps → All (Splits s label) ps

@@ -17,7 +17,7 @@ use Rattle.clu_partition.proofs.PairMerges.{has_turn}
 use Rattle.clu_state.proofs.JoinSteps.{joins_low, joins_aside}
 use Rattle.clu_state.proofs.Class.{same_group_member}
 use Rattle.clu_state.specs.State.{State, IsState, IsFree, merged, step_group, groups_after, leader, CanDecide, CanDecideAll, decided, fixed_value, are_apart, kept_apart, apart_decisions}
-use Rattle.clu_state.specs.Rebuilt.{Agrees, Leads}
+use Rattle.clu_state.specs.Rebuilt.{TablesAgree, Leads}
 use Rattle.clu_state.specs.declared.decision.Decision.{Decision}
 use Rattle.clu_state.specs.declared.decision.Decision.TheVariants.{Together, Apart}
 use Rattle.clu_state.proofs.GroupLaws.{leader_leads, min_either, max_either}
@@ -102,7 +102,7 @@ pub record Summed (members group : List ℕ) (old new : Pairs) (low high : ℕ) 
   pub others : (i j : ℕ) → i < length members → j < length members → i ≢ low → j ≢ low → weight_of new i j ≡ weight_of old i j
 
 -- the new weights, for the merged groups
-new_weight : (s : State) (group place : List ℕ) (old new : Pairs) (apart : Chosen) (fixed : ℤ) (low high a b : ℕ) → Agrees s group place old apart fixed → Two s low high →
+new_weight : (s : State) (group place : List ℕ) (old new : Pairs) (apart : Chosen) (fixed : ℤ) (low high a b : ℕ) → TablesAgree s group place old apart fixed → Two s low high →
     Summed s.members group old new (slice_index place low) (slice_index place high) →
     Leads s a → Leads s b → a ≢ high → b ≢ high → a ≢ b →
     weight_of new (slice_index place a) (slice_index place b) ≡ between (weight_of s.pairs) (relabelled (leader s) low high) s.members a b
@@ -144,7 +144,7 @@ pub record Marked (old new : Chosen) (low high : ℕ) : Type 0 where
   pub others : (i j : ℕ) → i < old.n → j < old.n → i ≢ low → j ≢ low → has new i j ≡ has old i j
 
 -- the new marks, for the merged groups
-new_mark : (s : State) (group place : List ℕ) (weights : Pairs) (old new : Chosen) (fixed : ℤ) (low high a b : ℕ) → Agrees s group place weights old fixed → Two s low high →
+new_mark : (s : State) (group place : List ℕ) (weights : Pairs) (old new : Chosen) (fixed : ℤ) (low high a b : ℕ) → TablesAgree s group place weights old fixed → Two s low high →
     Marked old new (slice_index place low) (slice_index place high) →
     Leads s a → Leads s b → a ≢ high → b ≢ high → a ≢ b →
     has new (slice_index place a) (slice_index place b) ≡ joins (relabelled (leader s) low high) (kept_apart s) a b
@@ -180,12 +180,12 @@ pub new_fixed : (s : State) (low high : ℕ) → IsState s → Two s low high �
 new_fixed s low high i t = value_relabelled (weight_of s.pairs) (weight_sym s.pairs) (leader s) low high s.members (state_are_groups s i) (leads_leader s low t.low_leads) (leads_leader s high t.high_leads) t.low_leads.least t.high_leads.least t.differ
 
 -- the tables after `together`
-pub agrees_together : (s : State) (group group' place : List ℕ) (old new : Pairs) (marks marks' : Chosen) (fixed : ℤ) (u v low high : ℕ) → Agrees s group place old marks fixed → IsFree s u v →
+pub agrees_together : (s : State) (group group' place : List ℕ) (old new : Pairs) (marks marks' : Chosen) (fixed : ℤ) (u v low high : ℕ) → TablesAgree s group place old marks fixed → IsFree s u v →
     low ≡ min (leader s u) (leader s v) → high ≡ max (leader s u) (leader s v) →
     length group' ≡ length group → EachIndex group' (λ k. slice_index group' k ≡ (if slice_index group k == high then low else slice_index group k)) →
     Summed s.members group old new (slice_index place low) (slice_index place high) →
     Marked marks marks' (slice_index place low) (slice_index place high) →
-    Agrees (decided s (Together u v)) group' place new marks' (fixed +ℤ weight_of old (slice_index place low) (slice_index place high))
+    TablesAgree (decided s (Together u v)) group' place new marks' (fixed +ℤ weight_of old (slice_index place low) (slice_index place high))
 agrees_together s group group' place old new marks marks' fixed u v low high g f el eh len re m k = record {
   state = decided_state s (Together u v) g.state f;
   few = g.few;
@@ -251,7 +251,7 @@ sum_small s low high x i t _ g l n k =
     let total = i.total in
     omega (arith, ints, b, z, total)
 
-pub ready : (s : State) (group place : List ℕ) (weights : Pairs) (apart : Chosen) (fixed : ℤ) (u v low high : ℕ) → Agrees s group place weights apart fixed → IsFree s u v →
+pub ready : (s : State) (group place : List ℕ) (weights : Pairs) (apart : Chosen) (fixed : ℤ) (u v low high : ℕ) → TablesAgree s group place weights apart fixed → IsFree s u v →
     low ≡ min (slice_index group u) (slice_index group v) → high ≡ max (slice_index group u) (slice_index group v) → Ready s.members group place weights apart low high
 ready s group place weights apart fixed u v low high g f el eh = record {
   low_below = let a = member_below s low g.state t.low_leads.member in let b = g.place_size in omega (arith, a, b);
@@ -303,15 +303,15 @@ ready s group place weights apart fixed u v low high g f el eh = record {
     merged_groups : AreGroups (relabelled (leader s) low high) s.members
     merged_groups = subst (λ (h : ℕ → ℕ). AreGroups h s.members) path (state_are_groups (decided s (Together u v)) (decided_state s (Together u v) g.state f))
 
-pub ready_at : (s : State) (members group place : List ℕ) (weights : Pairs) (apart : Chosen) (fixed : ℤ) (u v low high : ℕ) → s.members ≡ members → Agrees s group place weights apart fixed → IsFree s u v →
+pub ready_at : (s : State) (members group place : List ℕ) (weights : Pairs) (apart : Chosen) (fixed : ℤ) (u v low high : ℕ) → s.members ≡ members → TablesAgree s group place weights apart fixed → IsFree s u v →
     low ≡ min (slice_index group u) (slice_index group v) → high ≡ max (slice_index group u) (slice_index group v) → Ready members group place weights apart low high
 ready_at s members group place weights apart fixed u v low high em g f el eh = subst (λ ms. Ready ms group place weights apart low high) em (ready s group place weights apart fixed u v low high g f el eh)
 
-pub joined_agrees : (s : State) (members group group' place : List ℕ) (old new : Pairs) (marks marks' : Chosen) (fixed gained : ℤ) (u v low high p q : ℕ) → s.members ≡ members → Agrees s group place old marks fixed → IsFree s u v →
+pub joined_agrees : (s : State) (members group group' place : List ℕ) (old new : Pairs) (marks marks' : Chosen) (fixed gained : ℤ) (u v low high p q : ℕ) → s.members ≡ members → TablesAgree s group place old marks fixed → IsFree s u v →
     low ≡ min (slice_index group u) (slice_index group v) → high ≡ max (slice_index group u) (slice_index group v) →
     length group' ≡ length group → EachIndex group' (λ k. slice_index group' k ≡ (if slice_index group k == high then low else slice_index group k)) →
     Summed members group old new p q → Marked marks marks' p q → p ≡ slice_index place low → q ≡ slice_index place high → gained ≡ weight_of old p q →
-    Agrees (decided s (Together u v)) group' place new marks' (fixed +ℤ gained)
+    TablesAgree (decided s (Together u v)) group' place new marks' (fixed +ℤ gained)
 joined_agrees s members group group' place old new marks marks' fixed gained u v low high p q em g f el eh len re m k ep eq' ew =
     let lu : slice_index group u ≡ leader s u = g.leaders u (member_below s u g.state f.first) in
     let lv : slice_index group v ≡ leader s v = g.leaders v (member_below s v g.state f.second) in
@@ -321,16 +321,16 @@ joined_agrees s members group group' place old new marks marks' fixed gained u v
     let k1 = subst (λ x. Marked marks marks' x q) ep k in
     let k2 = subst (λ x. Marked marks marks' (slice_index place low) x) eq' k1 in
     let w : gained ≡ weight_of old (slice_index place low) (slice_index place high) = ew ∙ ap (λ x. weight_of old x q) ep ∙ ap (weight_of old (slice_index place low)) eq' in
-    subst (λ z. Agrees (decided s (Together u v)) group' place new marks' (fixed +ℤ z)) (sym w)
+    subst (λ z. TablesAgree (decided s (Together u v)) group' place new marks' (fixed +ℤ z)) (sym w)
     (agrees_together s group group' place old new marks marks' fixed u v low high g f (omega (arith, el, lu, lv)) (omega (arith, eh, lu, lv)) len re m3 k2)
 
-pub fixed_small : (s : State) (group place : List ℕ) (weights : Pairs) (apart : Chosen) (fixed : ℤ) → Agrees s group place weights apart fixed → unsigned_abs fixed ≤ 2 ^ 88
+pub fixed_small : (s : State) (group place : List ℕ) (weights : Pairs) (apart : Chosen) (fixed : ℤ) → TablesAgree s group place weights apart fixed → unsigned_abs fixed ≤ 2 ^ 88
 fixed_small s group place weights apart fixed g = let b = fixed_size s g.state in let z = ap unsigned_abs g.inside in omega (arith, b, z)
 
-pub agrees_same : (s t : State) (group group' place place' : List ℕ) (weights : Pairs) (apart : Chosen) (fixed fixed' : ℤ) → Agrees s group place weights apart fixed → t ≡ s → group' ≡ group → place' ≡ place → fixed' ≡ fixed →
-    Agrees t group' place' weights apart fixed'
+pub agrees_same : (s t : State) (group group' place place' : List ℕ) (weights : Pairs) (apart : Chosen) (fixed fixed' : ℤ) → TablesAgree s group place weights apart fixed → t ≡ s → group' ≡ group → place' ≡ place → fixed' ≡ fixed →
+    TablesAgree t group' place' weights apart fixed'
 agrees_same s t group group' place place' weights apart fixed fixed' g es eg ep ef =
-    subst (λ x. Agrees x group' place' weights apart fixed') (sym es)
-    (subst (λ x. Agrees s x place' weights apart fixed') (sym eg)
-    (subst (λ x. Agrees s group x weights apart fixed') (sym ep)
-    (subst (Agrees s group place weights apart) (sym ef) g)))
+    subst (λ x. TablesAgree x group' place' weights apart fixed') (sym es)
+    (subst (λ x. TablesAgree s x place' weights apart fixed') (sym eg)
+    (subst (λ x. TablesAgree s group x weights apart fixed') (sym ep)
+    (subst (TablesAgree s group place weights apart) (sym ef) g)))

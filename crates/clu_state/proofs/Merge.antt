@@ -4,7 +4,7 @@ use Rattle.std.proofs.lemmas.Int.{ints}
 use Rattle.std.proofs.lemmas.Bool.{eq-eqb, ne_eqb, cases_eq}
 use Rattle.clu_partition.specs.Sums.{total, only_if}
 use Rattle.clu_partition.specs.Values.{value_on}
-use Rattle.clu_partition.specs.Groups.{leaders, block, between}
+use Rattle.clu_partition.specs.Groups.{leaders, group_members, between}
 use Rattle.clu_partition.proofs.SumLaws.{Each, Among, total_cong, total_add, total_zero, total_cong_on, only_same, only_other, shared_sym}
 use Rattle.clu_partition.proofs.Regroup.{AreGroups, filter_total, value_split, leaders_rising, between_sym, apart_pairs, leaders_lead}
 use Rattle.clu_partition.proofs.TakeOut.{TwoOut, two_out, out_pairs, each_splice, rising_splice}
@@ -40,7 +40,7 @@ other_point group low high a x z m n = ⊎_elim
     (cases_eq (group x) high)
 
 low_block : (f : ℕ → ℤ) (group : ℕ → ℕ) (low high : ℕ) (members : List ℕ) → low ≢ high →
-    total f (block (relabelled group low high) members low) ≡ total f (block group members low) +ℤ total f (block group members high)
+    total f (group_members (relabelled group low high) members low) ≡ total f (group_members group members low) +ℤ total f (group_members group members high)
 low_block f group low high members n =
     let a = filter_total f (λ x. relabelled group low high x == low) members in
     let b = total_cong (λ x. only_if (relabelled group low high x == low) (f x)) (λ x. only_if (group x == low) (f x) +ℤ only_if (group x == high) (f x)) members (λ x. low_point group low high x (f x) n) in
@@ -50,7 +50,7 @@ low_block f group low high members n =
     omega (arith, ints, a, b, c, d, e)
 
 other_block : (f : ℕ → ℤ) (group : ℕ → ℕ) (low high a : ℕ) (members : List ℕ) → a ≢ low → a ≢ high →
-    total f (block (relabelled group low high) members a) ≡ total f (block group members a)
+    total f (group_members (relabelled group low high) members a) ≡ total f (group_members group members a)
 other_block f group low high a members m n =
     filter_total f (λ x. relabelled group low high x == a) members ∙
     total_cong (λ x. only_if (relabelled group low high x == a) (f x)) (λ x. only_if (group x == a) (f x)) members (λ x. other_point group low high a x (f x) m n) ∙
@@ -59,9 +59,9 @@ other_block f group low high a members m n =
 pub between_low : (w : ℕ → ℕ → ℤ) (group : ℕ → ℕ) (low high b : ℕ) (members : List ℕ) → low ≢ high → b ≢ low → b ≢ high →
     between w (relabelled group low high) members low b ≡ between w group members low b +ℤ between w group members high b
 between_low w group low high b members n m k =
-    low_block (λ u. total (w u) (block (relabelled group low high) members b)) group low high members n ∙
-    ap₂' (total_cong (λ u. total (w u) (block (relabelled group low high) members b)) (λ u. total (w u) (block group members b)) (block group members low) (λ u. other_block (w u) group low high b members m k))
-    (total_cong (λ u. total (w u) (block (relabelled group low high) members b)) (λ u. total (w u) (block group members b)) (block group members high) (λ u. other_block (w u) group low high b members m k))
+    low_block (λ u. total (w u) (group_members (relabelled group low high) members b)) group low high members n ∙
+    ap₂' (total_cong (λ u. total (w u) (group_members (relabelled group low high) members b)) (λ u. total (w u) (group_members group members b)) (group_members group members low) (λ u. other_block (w u) group low high b members m k))
+    (total_cong (λ u. total (w u) (group_members (relabelled group low high) members b)) (λ u. total (w u) (group_members group members b)) (group_members group members high) (λ u. other_block (w u) group low high b members m k))
   where
     ap₂' : {x y z t : ℤ} → x ≡ y → z ≡ t → x +ℤ z ≡ y +ℤ t
     ap₂' {x} {y} {z} {t} p q = ap (λ k. k +ℤ z) p ∙ ap (λ k. y +ℤ k) q
@@ -69,8 +69,8 @@ between_low w group low high b members n m k =
 pub between_other : (w : ℕ → ℕ → ℤ) (group : ℕ → ℕ) (low high a b : ℕ) (members : List ℕ) → a ≢ low → a ≢ high → b ≢ low → b ≢ high →
     between w (relabelled group low high) members a b ≡ between w group members a b
 between_other w group low high a b members p q m k =
-    other_block (λ u. total (w u) (block (relabelled group low high) members b)) group low high a members p q ∙
-    total_cong (λ u. total (w u) (block (relabelled group low high) members b)) (λ u. total (w u) (block group members b)) (block group members a) (λ u. other_block (w u) group low high b members m k)
+    other_block (λ u. total (w u) (group_members (relabelled group low high) members b)) group low high a members p q ∙
+    total_cong (λ u. total (w u) (group_members (relabelled group low high) members b)) (λ u. total (w u) (group_members group members b)) (group_members group members a) (λ u. other_block (w u) group low high b members m k)
 
 -- ---- the value inside
 lone_row : (b : ℕ → ℕ → ℤ) (label : ℕ → ℕ) (a low : ℕ) (rest : List ℕ) → label a ≡ low → Each (λ x. label x ≢ low) rest → total (λ x. only_if (label a == label x) (b a x)) rest ≡ pos 0

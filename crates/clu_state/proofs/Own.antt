@@ -6,7 +6,7 @@ use Rattle.clu_partition.specs.Closed.{joins, IsPermitted}
 use Rattle.clu_partition.specs.Partition.{below}
 use Rattle.clu_partition.proofs.JoinLaws.{joins_listed, joins_same, joins_turn}
 use Rattle.clu_partition.proofs.ClosedLaws.{own_permitted}
-use Rattle.clu_state.specs.State.{State, IsState, InClass, Obeys, IsFree, CanDecideAll, merged, leader, kept_apart, apart_decisions, decided}
+use Rattle.clu_state.specs.State.{State, IsState, InClass, ObeysDecision, IsFree, CanDecideAll, merged, leader, kept_apart, apart_decisions, decided}
 use Rattle.clu_state.specs.declared.decision.Decision.{Decision}
 use Rattle.clu_state.specs.declared.decision.Decision.TheVariants.{Together, Apart}
 use Rattle.clu_state.proofs.GroupLaws.{merged_high, merged_other}
@@ -87,11 +87,11 @@ state_keeps s i = all_keep (record s { decisions = [] }) s.decisions i.made
     (own_permitted s.start i.closed).forbidden)
 
 obeys_all : (label : ℕ → ℕ) (ds : List Decision) → ((u v : ℕ) → Contains ds (Together u v) → label u ≡ label v) →
-    All (λ p. label p.0 ≢ label p.1) (apart_decisions ds) → All (Obeys label) ds
-obeys_all label [] f a = All-nil (Obeys label)
-obeys_all label (Together u v ∷ ds) f a = All-cons (Obeys label) (Together u v) ds (f u v (0, omega arith, refl))
+    All (λ p. label p.0 ≢ label p.1) (apart_decisions ds) → All (ObeysDecision label) ds
+obeys_all label [] f a = All-nil (ObeysDecision label)
+obeys_all label (Together u v ∷ ds) f a = All-cons (ObeysDecision label) (Together u v) ds (f u v (0, omega arith, refl))
     (obeys_all label ds (λ x y c. f x y (Contains-append_right (Together u v ∷ []) ds (Together x y) c)) a)
-obeys_all label (Apart u v ∷ ds) f a = All-cons (Obeys label) (Apart u v) ds
+obeys_all label (Apart u v ∷ ds) f a = All-cons (ObeysDecision label) (Apart u v) ds
     (All-head (λ p. label p.0 ≢ label p.1) (u, v) (apart_decisions ds) a)
     (obeys_all label ds (λ x y c. f x y (Contains-append_right (Apart u v ∷ []) ds (Together x y) c))
     (All-tail (λ p. label p.0 ≢ label p.1) (u, v) (apart_decisions ds) a))

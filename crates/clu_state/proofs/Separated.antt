@@ -10,7 +10,7 @@ use Rattle.clu_partition.specs.Values.{value_on}
 use Rattle.clu_partition.proofs.JoinLaws.{joins_turn, joins_same, joins_listed}
 use Rattle.clu_partition.specs.PairSets.{Chosen, has, with_pair}
 use Rattle.clu_state.specs.State.{State, IsFree, leader, kept_apart, are_apart, decided}
-use Rattle.clu_state.specs.Rebuilt.{Agrees, Leads}
+use Rattle.clu_state.specs.Rebuilt.{TablesAgree, Leads}
 use Rattle.clu_state.specs.declared.decision.Decision.TheVariants.{Apart}
 use Rattle.clu_state.proofs.GroupLaws.{leader_leads}
 use Rattle.clu_state.proofs.JoinSteps.{joins_append, joins_no_other}
@@ -27,7 +27,7 @@ which x y a b = ⊎_elim
     (cases_eq x a)
 
 -- the new marks
-apart_mark : (s : State) (group place : List ℕ) (weights : Pairs) (marks : Chosen) (fixed : ℤ) (u v a b : ℕ) → IsGrid marks → Agrees s group place weights marks fixed → IsFree s u v →
+apart_mark : (s : State) (group place : List ℕ) (weights : Pairs) (marks : Chosen) (fixed : ℤ) (u v a b : ℕ) → IsGrid marks → TablesAgree s group place weights marks fixed → IsFree s u v →
     Leads s a → Leads s b → a ≢ b →
     has (with_pair marks (at_group s place u) (at_group s place v)) (slice_index place a) (slice_index place b) ≡ joins (leader s) (kept_apart s ++ (u, v) ∷ []) a b
 apart_mark s group place weights marks fixed u v a b am g f la lb ab = ⊎_elim
@@ -69,8 +69,8 @@ apart_mark s group place weights marks fixed u v a b am g f la lb ab = ⊎_elim
         joins_same (leader s) (kept_apart s ++ (u, v) ∷ []) x y u v (l.least ∙ sym e) (k.least ∙ sym h) ∙
         joins_listed (leader s) (kept_apart s ++ (u, v) ∷ []) (u, v) (Contains-append_right (kept_apart s) ((u, v) ∷ []) (u, v) (0, omega arith, refl))
 
-pub agrees_apart : (s : State) (group place : List ℕ) (weights : Pairs) (old new : Chosen) (fixed : ℤ) (u v p q : ℕ) → Agrees s group place weights old fixed → IsFree s u v → IsGrid old →
-    p ≡ slice_index place (slice_index group u) → q ≡ slice_index place (slice_index group v) → new ≡ with_pair old p q → Agrees (decided s (Apart u v)) group place weights new fixed
+pub agrees_apart : (s : State) (group place : List ℕ) (weights : Pairs) (old new : Chosen) (fixed : ℤ) (u v p q : ℕ) → TablesAgree s group place weights old fixed → IsFree s u v → IsGrid old →
+    p ≡ slice_index place (slice_index group u) → q ≡ slice_index place (slice_index group v) → new ≡ with_pair old p q → TablesAgree (decided s (Apart u v)) group place weights new fixed
 agrees_apart s group place weights old new fixed u v p q g f am ep eq' en = record {
   state = decided_state s (Apart u v) g.state f;
   few = g.few;
@@ -104,7 +104,7 @@ pub record Parts (group place : List ℕ) (apart : Chosen) (u : ℕ) : Type 0 wh
   pub leader_below : slice_index group u < length place
   pub place_below : slice_index place (slice_index group u) < apart.n
 
-pub parts : (s : State) (group place : List ℕ) (weights : Pairs) (apart : Chosen) (fixed : ℤ) (u : ℕ) → Agrees s group place weights apart fixed → Contains s.members u → Parts group place apart u
+pub parts : (s : State) (group place : List ℕ) (weights : Pairs) (apart : Chosen) (fixed : ℤ) (u : ℕ) → TablesAgree s group place weights apart fixed → Contains s.members u → Parts group place apart u
 parts s group place weights apart fixed u g c =
     let p = placed s group place weights apart fixed u g c in
     let e : slice_index group u ≡ leader s u = g.leaders u (member_below s u g.state c) in

@@ -4,7 +4,7 @@ use Rattle.clu_partition.specs.Pairs.{Pairs, weight_of}
 use Rattle.clu_partition.proofs.JoinLaws.{joins_same}
 use Rattle.clu_partition.specs.PairSets.{Chosen, has}
 use Rattle.clu_state.specs.State.{State, leader, group_weight, are_apart, kept_apart}
-use Rattle.clu_state.specs.Rebuilt.{Agrees}
+use Rattle.clu_state.specs.Rebuilt.{TablesAgree}
 use Rattle.clu_state.proofs.GroupLaws.{leader_leads, leader_below, state_groups}
 use Rattle.clu_state.proofs.Joined.{place_is}
 
@@ -17,7 +17,7 @@ pub record Placed (s : State) (place : List ℕ) (weights : Pairs) (apart : Chos
   pub in_weights : at_group s place x < weights.n
   pub in_marks : at_group s place x < apart.n
 
-pub placed : (s : State) (group place : List ℕ) (weights : Pairs) (apart : Chosen) (fixed : ℤ) (x : ℕ) → Agrees s group place weights apart fixed → Contains s.members x → Placed s place weights apart x
+pub placed : (s : State) (group place : List ℕ) (weights : Pairs) (apart : Chosen) (fixed : ℤ) (x : ℕ) → TablesAgree s group place weights apart fixed → Contains s.members x → Placed s place weights apart x
 placed s group place weights apart fixed x g c =
     let p = (place_is s.members place (leader s x) g.places (leader_leads s x g.state c).member).0 in
     let b = leader_below s x g.state c in
@@ -27,13 +27,13 @@ placed s group place weights apart fixed x g c =
       in_marks = let k = g.marks_size in omega (arith, p, k);
     }
 
-pub weight_at : (s : State) (group place : List ℕ) (weights : Pairs) (apart : Chosen) (fixed : ℤ) (u v p q : ℕ) → Agrees s group place weights apart fixed →
+pub weight_at : (s : State) (group place : List ℕ) (weights : Pairs) (apart : Chosen) (fixed : ℤ) (u v p q : ℕ) → TablesAgree s group place weights apart fixed →
     Contains s.members u → Contains s.members v → leader s u ≢ leader s v → p ≡ at_group s place u → q ≡ at_group s place v → weight_of weights p q ≡ group_weight s u v
 weight_at s group place weights apart fixed u v p q g cu cv n ep eq' =
     ap (λ x. weight_of weights x q) ep ∙ ap (weight_of weights (at_group s place u)) eq' ∙
     g.contracted (leader s u) (leader s v) (leader_leads s u g.state cu) (leader_leads s v g.state cv) n
 
-pub apart_at : (s : State) (group place : List ℕ) (weights : Pairs) (apart : Chosen) (fixed : ℤ) (u v p q : ℕ) → Agrees s group place weights apart fixed →
+pub apart_at : (s : State) (group place : List ℕ) (weights : Pairs) (apart : Chosen) (fixed : ℤ) (u v p q : ℕ) → TablesAgree s group place weights apart fixed →
     Contains s.members u → Contains s.members v → leader s u ≢ leader s v → p ≡ at_group s place u → q ≡ at_group s place v → has apart p q ≡ are_apart s u v
 apart_at s group place weights apart fixed u v p q g cu cv n ep eq' =
     ap (λ x. has apart x q) ep ∙ ap (has apart (at_group s place u)) eq' ∙

@@ -16,12 +16,12 @@ pub record HasHome (n m : ℕ) (group place : List ℕ) (v : ℕ) : Type 0 where
   pub low : home group place v < m
 
 -- the weight of u and v, where their groups have the places x and z, in either order
-abbrev pub share : (ℕ → ℕ → ℤ) → (ℕ → ℕ) → ℕ → ℕ → ℕ → ℕ → ℤ
-share weight at' x z u v = only_if (are_pair (at' u) (at' v) x z) (weight u v)
+abbrev pub weight_between : (ℕ → ℕ → ℤ) → (ℕ → ℕ) → ℕ → ℕ → ℕ → ℕ → ℤ
+weight_between weight at' x z u v = only_if (are_pair (at' u) (at' v) x z) (weight u v)
 
 -- the weight of u and v, where their groups have one place
-abbrev pub kept : (ℕ → ℕ → ℤ) → (ℕ → ℕ) → ℕ → ℕ → ℤ
-kept weight at' u v = only_if (at' u == at' v) (weight u v)
+abbrev pub weight_within : (ℕ → ℕ → ℤ) → (ℕ → ℕ) → ℕ → ℕ → ℤ
+weight_within weight at' u v = only_if (at' u == at' v) (weight u v)
 
 -- the absolute weight of u and v
 abbrev pub size_between : Pairs → ℕ → ℕ → ℤ

@@ -12,7 +12,7 @@ pub record Leads (s : State) (a : ℕ) : Type 0 where
 
 -- The tables agree with a state: the group of each vertex, the place of each member, the weights between groups and the
 -- marks of those that are apart, both by the places of the groups' least vertices, and the weight inside groups.
-pub record Agrees (s : State) (group place : List ℕ) (weights : Pairs) (apart : Chosen) (fixed : ℤ) : Type 0 where
+pub record TablesAgree (s : State) (group place : List ℕ) (weights : Pairs) (apart : Chosen) (fixed : ℤ) : Type 0 where
   pub state : IsState s
   pub few : length s.members ≤ 1000
   pub group_size : length group ≡ length s.start.group

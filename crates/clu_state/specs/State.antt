@@ -103,15 +103,15 @@ pub record IsState (s : State) : Type 0 where
   pub made : CanDecideAll (record s { decisions = [] }) s.decisions
 
 -- ---- the class
-abbrev pub Obeys : (ℕ → ℕ) → Decision → Type 0
-Obeys label (Together u v) = label u ≡ label v
-Obeys label (Apart u v) = label u ≢ label v
+abbrev pub ObeysDecision : (ℕ → ℕ) → Decision → Type 0
+ObeysDecision label (Together u v) = label u ≡ label v
+ObeysDecision label (Apart u v) = label u ≢ label v
 
 -- a partition of the members that obeys the rules among them and each decision
 pub record InClass (s : State) (label : ℕ → ℕ) : Type 0 where
   pub required : All (λ v. label (slice_index s.start.group v) ≡ label v) s.members
   pub forbidden : All (λ p. Contains s.members p.0 → Contains s.members p.1 → label p.0 ≢ label p.1) s.start.forbidden
-  pub decisions : All (Obeys label) s.decisions
+  pub decisions : All (ObeysDecision label) s.decisions
 
 -- the state without decisions
 abbrev pub undecided : Pairs → Closed → List ℕ → State

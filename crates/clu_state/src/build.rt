@@ -6,7 +6,7 @@ ghost use Rattle.std.specs.Prelude.{◌≡◌, ◌≢◌, ◌↔◌, ◌<◌, �
 ghost use Rattle.clu_partition.specs.Closed.{joins};
 ghost use Rattle.clu_partition.specs.Pairs.{are_pair, weight_of};
 ghost use Rattle.clu_partition.specs.Sums.{total, pair_total};
-ghost use Rattle.clu_state.specs.Building.{home as home_of, HasHome, HasRoom, ArePlaces, GrownBy, MarkedBy, share, kept, size_between};
+ghost use Rattle.clu_state.specs.Building.{home as home_of, HasHome, HasRoom, ArePlaces, GrownBy, MarkedBy, weight_between, weight_within, size_between};
 
 use crate::Rebuilt;
 use crate::copy::copied;
@@ -112,8 +112,8 @@ fn add_pair(
     requires room { HasRoom weights.old (size_between pairs.now u v) }
     ensures size { weights.new.n ≡ weights.old.n }
     ensures sums { GrownBy (λ x z.
-        share (weight_of pairs.now) (home_of group.now place.now) x z u v) weights.old weights.new }
-    ensures inside { result ≡ kept (weight_of pairs.now) (home_of group.now place.now) u v }
+        weight_between (weight_of pairs.now) (home_of group.now place.now) x z u v) weights.old weights.new }
+    ensures inside { result ≡ weight_within (weight_of pairs.now) (home_of group.now place.now) u v }
 {
     let weight = pairs.get(u, v);
     let p = home(group, place, u);
@@ -141,9 +141,9 @@ fn add_with(
     requires small { total (size_between pairs.now u) others.now ≤ℤ pos (2 ^ 88) }
     ensures size { weights.new.n ≡ weights.old.n }
     ensures sums { GrownBy (λ x z.
-        total (share (weight_of pairs.now)
+        total (weight_between (weight_of pairs.now)
         (home_of group.now place.now) x z u) others.now) weights.old weights.new }
-    ensures inside { result ≡ total (kept (weight_of pairs.now)
+    ensures inside { result ≡ total (weight_within (weight_of pairs.now)
         (home_of group.now place.now) u) others.now }
 {
     let mut sum = 0;
@@ -167,9 +167,9 @@ fn add_all(
     requires small { pair_total (size_between pairs.now) members.now ≤ℤ pos (2 ^ 88) }
     ensures size { weights.new.n ≡ weights.old.n }
     ensures sums { GrownBy (λ x z.
-        pair_total (share (weight_of pairs.now)
+        pair_total (weight_between (weight_of pairs.now)
         (home_of group.now place.now) x z) members.now) weights.old weights.new }
-    ensures inside { result ≡ pair_total (kept (weight_of pairs.now)
+    ensures inside { result ≡ pair_total (weight_within (weight_of pairs.now)
         (home_of group.now place.now)) members.now }
 {
     let mut sum = 0;

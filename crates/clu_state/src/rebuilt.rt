@@ -4,7 +4,7 @@
 
 ghost use Rattle.std.specs.Prelude.{All, min, max, ◌≡◌, ◌≢◌, ◌↔◌, ◌<◌, ◌≤◌, ◌^◌, ℕ, ℤ, ◌+ℤ◌, Contains, IsTrue, length, if◌then◌else◌, ◌==◌, slice_index, slice_set, unsigned_abs, EachIndex};
 ghost use Rattle.clu_partition.specs.Pairs.{Pairs, weight_of, with_weight, IsTable};
-ghost use Rattle.clu_state.specs.Rebuilt.{Agrees};
+ghost use Rattle.clu_state.specs.Rebuilt.{TablesAgree};
 ghost use Rattle.clu_state.specs.State.{State, CanDecide, decided};
 
 use crate::build::{home, is_member, place_of};
@@ -35,13 +35,13 @@ pub struct Rebuilt<'p> {
 
 impl<'p> Model for Rebuilt<'p> {
     ghost use Rattle.clu_state.specs.State.{State};
-    ghost use Rattle.clu_state.specs.Rebuilt.{Agrees};
+    ghost use Rattle.clu_state.specs.Rebuilt.{TablesAgree};
 
     ghost Value = { State };
 
     ghost view = { λ r. record { pairs = r.pairs.now; start = r.start.now; members = r.members.items; decisions = r.decisions.items } };
 
-    ghost invariant = { λ r. Agrees (record { pairs = r.pairs.now; start = r.start.now; members = r.members.items; decisions = r.decisions.items }) r.group.items r.place.items r.weights r.apart r.fixed };
+    ghost invariant = { λ r. TablesAgree (record { pairs = r.pairs.now; start = r.start.now; members = r.members.items; decisions = r.decisions.items }) r.group.items r.place.items r.weights r.apart r.fixed };
 }
 
 impl<'p> Situation for Rebuilt<'p> {
@@ -140,11 +140,11 @@ fn join(
     v: Vertex,
 ) -> i128
     requires some { (s : State) × (fixed : ℤ) × (s.members ≡ members.now)
-        × Agrees s group.old place.now weights.old apart.old fixed
+        × TablesAgree s group.old place.now weights.old apart.old fixed
         × CanDecide s (Decision.Together u v) }
     ensures { (s : State) (fixed : ℤ) → s.members ≡ members.now
-        → Agrees s group.old place.now weights.old apart.old fixed → CanDecide s (Decision.Together u v)
-        → Agrees (decided s (Decision.Together u v)) group.new place.now weights.new apart.new (fixed
+        → TablesAgree s group.old place.now weights.old apart.old fixed → CanDecide s (Decision.Together u v)
+        → TablesAgree (decided s (Decision.Together u v)) group.new place.now weights.new apart.new (fixed
         +ℤ result) }
 {
     let low = lower_leader(group, u, v);
@@ -161,10 +161,10 @@ fn join(
 /// Marks the groups of `u` and `v` as apart.
 fn separate(place: &[Place], group: &[Vertex], apart: &mut PairSet, u: Vertex, v: Vertex)
     requires some { (s : State) × (weights : Pairs) × (fixed : ℤ)
-        × Agrees s group.now place.now weights apart.old fixed × CanDecide s (Decision.Apart u v) }
+        × TablesAgree s group.now place.now weights apart.old fixed × CanDecide s (Decision.Apart u v) }
     ensures { (s : State) (weights : Pairs) (fixed : ℤ)
-        → Agrees s group.now place.now weights apart.old fixed → CanDecide s (Decision.Apart u v)
-        → Agrees (decided s (Decision.Apart u v)) group.now place.now weights apart.new fixed }
+        → TablesAgree s group.now place.now weights apart.old fixed → CanDecide s (Decision.Apart u v)
+        → TablesAgree (decided s (Decision.Apart u v)) group.now place.now weights apart.new fixed }
 {
     let p = home(group, place, u);
     let q = home(group, place, v);

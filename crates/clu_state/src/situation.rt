@@ -2,7 +2,7 @@
 //! and free pairs are written here once, over the other answers, and so are proved for every state.
 
 ghost use Rattle.std.specs.Prelude.{◌≡◌, ◌≢◌, ◌↔◌, ◌++◌, All, ℕ, ℤ, Contains, IfOk, IsTrue, OnOk, OnErr, map};
-ghost use Rattle.clu_state.specs.Chains.{IsLeastTied};
+ghost use Rattle.clu_state.specs.Chains.{IsLeastChained};
 ghost use Rattle.clu_state.specs.State.{State, AreLater, IsFree, IsState, leader, group_weight, are_apart, fixed_value, free_pairs, free_with, group_leaders, CanDecide, decided};
 
 use crate::Decision;
@@ -32,7 +32,7 @@ pub trait Situation {
     fn group_of(&self, v: Vertex) -> Vertex
         requires { Contains (state self.now).members v }
         ensures value { result ≡ leader (state self.now) v }
-        ensures tied { IsLeastTied (state self.now) v result };
+        ensures tied { IsLeastChained (state self.now) v result };
 
     /// The weight between the groups of two members: the sum over their vertex pairs.
     fn weight(&self, u: Vertex, v: Vertex) -> i128

@@ -5,7 +5,7 @@
 ghost use Rattle.std.specs.Prelude.{◌≡◌, ◌+◌, ◌*◌, ◌^◌, ◌<◌, ◌≤◌, ℕ, ℤ, IfSome, MatchOption, MatchResult, length, take, IfOk, unsigned_abs};
 ghost use Rattle.std.specs.List.{position_or_len};
 ghost use Rattle.std.specs.Str.Parse.{AllDigits, digits_value};
-ghost use Rattle.clu_text.specs.Decimals.{is_negative as negative_of, unsigned_of, is_point, before_point, behind_point, places_of, FitsCut, signed as signed_of, IsDecimal};
+ghost use Rattle.clu_text.specs.Decimals.{is_negative as negative_of, unsigned_of, is_decimal_point, before_point, behind_point, places_of, FitsPlaces, signed as signed_of, IsDecimal};
 
 use crate::cut::after;
 use crate::digit_runs::{are_digits, digits_below};
@@ -80,7 +80,7 @@ fn unsigned(field: &[u8]) -> &[u8]
 
 /// The place of the first point, or the length.
 fn point(bytes: &[u8]) -> usize
-    ensures is { result ≡ position_or_len is_point bytes.now }
+    ensures is { result ≡ position_or_len is_decimal_point bytes.now }
     ensures within { result ≤ length bytes.now }
 {
     match memchr(b'.', bytes) {
@@ -92,8 +92,8 @@ fn point(bytes: &[u8]) -> usize
 /// How many decimal places are kept; `None` where there are too many.
 fn kept_places(fraction: &[u8], cut: Option<u8>) -> Option<u8>
     requires { IfSome cut (λ k. k ≤ 9) }
-    ensures { MatchOption result (FitsCut cut fraction.now → ⊥)
-        (λ places. FitsCut cut fraction.now × (places ≡ places_of cut fraction.now) × (places ≤ 9)
+    ensures { MatchOption result (FitsPlaces cut fraction.now → ⊥)
+        (λ places. FitsPlaces cut fraction.now × (places ≡ places_of cut fraction.now) × (places ≤ 9)
         × (places ≤ length fraction.now)) }
 {
     let len = fraction.len();

@@ -10,14 +10,14 @@ use Rattle.clu_reduce.specs.Reduction.{decision_of}
 use Rattle.clu_reduce.specs.declared.step.Step.{Step}
 use Rattle.clu_node.specs.Node.{IsBounded}
 use Rattle.clu_node.specs.declared.bound.NodeBound.{NodeBound}
-use Rattle.clu_cert.specs.Valid.{AllHold, stepped}
+use Rattle.clu_cert.specs.Valid.{StepsHold, stepped}
 use Rattle.clu_cert.proofs.States.{stepped_is, stepped_state}
 use Rattle.clu_tree.specs.declared.node.Node.{Node}
 use Rattle.clu_tree.specs.declared.node.Branch.{Branch}
 use Rattle.clu_tree.specs.declared.node.Standing.{Standing}
 use Rattle.clu_tree.specs.declared.node.Standing.TheVariants.{Unsplit, Split}
 use Rattle.clu_tree.specs.Nodes.{Shown, pending, state_from, HasKey, LeafAt, Stands, AreTrees}
-use Rattle.clu_tree.specs.Links.{follow, KeysDiffer, AreLinked}
+use Rattle.clu_tree.specs.Links.{nodes_from, KeysDiffer, AreNodeLinks}
 use Rattle.clu_tree.proofs.Arena.{some_one, key_node, leaf_unsplit}
 use Rattle.clu_tree.proofs.SplitLaws.{state_here, state_later, leaf_here, leaf_later}
 
@@ -56,7 +56,7 @@ pub record ComesFrom (root s : State) : Type 0 where
 pub root_from : (root : State) → IsState root → ComesFrom root root
 root_from root i = record { state = i; same = refl }
 
-stepped_from : (root s : State) (steps : List Step) → ComesFrom root s → AllHold s steps → ComesFrom root (stepped s steps)
+stepped_from : (root s : State) (steps : List Step) → ComesFrom root s → StepsHold s steps → ComesFrom root (stepped s steps)
 stepped_from root s steps f a =
     let e = stepped_is s steps in
     let decisions = s.decisions ++ map decision_of steps in
@@ -89,25 +89,25 @@ state_is_from floor key (n ∷ ns) (s ∷ later) other root o e t =
     (cases_eq n.key key)
 
 -- ---- in the arena
-pub linked_contains : (nodes : Slab Node) (first : ℕ) (key : ℕ) → HasKey key (follow (slab_len nodes) nodes first) → ContainsKey nodes key
+pub linked_contains : (nodes : Slab Node) (first : ℕ) (key : ℕ) → HasKey key (nodes_from (slab_len nodes) nodes first) → ContainsKey nodes key
 linked_contains nodes first key h =
     let w = key_node (slab_len nodes) nodes first key h in
     subst (λ o. IsSome o) (sym w.1) refl
 
 -- a leaf's node isn't split
-pub linked_leaf : (nodes : Slab Node) (first : ℕ) (key : ℕ) (node : NodeBound) (n : Node) → LeafAt key node (follow (slab_len nodes) nodes first)
+pub linked_leaf : (nodes : Slab Node) (first : ℕ) (key : ℕ) (node : NodeBound) (n : Node) → LeafAt key node (nodes_from (slab_len nodes) nodes first)
     → get nodes key ≡ Some n → n.standing ≡ Unsplit node
 linked_leaf nodes first key node n l e =
     let w = leaf_unsplit (slab_len nodes) nodes first key node l in
     ap (λ (m : Node). m.standing) (some_one (get nodes key) n w.0 e w.1) ∙ w.2
 
-pub linked_from : (nodes : Slab Node) (first : ℕ) (root : State) (floor : ℤ) (key : ℕ) → AreLinked nodes first root floor
-    → ComesFrom root (state_from key (follow (slab_len nodes) nodes first) (root ∷ []) root)
+pub linked_from : (nodes : Slab Node) (first : ℕ) (root : State) (floor : ℤ) (key : ℕ) → AreNodeLinks nodes first root floor
+    → ComesFrom root (state_from key (nodes_from (slab_len nodes) nodes first) (root ∷ []) root)
 linked_from nodes first root floor key a =
     let r = root_from root a.state in
-    state_is_from floor key (follow (slab_len nodes) nodes first) (root ∷ []) root root r (r, tt) a.trees
+    state_is_from floor key (nodes_from (slab_len nodes) nodes first) (root ∷ []) root root r (r, tt) a.trees
 
-pub linked_bounded : (nodes : Slab Node) (first : ℕ) (root : State) (floor : ℤ) (key : ℕ) (node : NodeBound) → AreLinked nodes first root floor
-    → LeafAt key node (follow (slab_len nodes) nodes first)
-    → IsBounded (state_from key (follow (slab_len nodes) nodes first) (root ∷ []) root) node
-linked_bounded nodes first root floor key node a b = bounded_at floor key node (follow (slab_len nodes) nodes first) (root ∷ []) root a.differ a.trees b
+pub linked_bounded : (nodes : Slab Node) (first : ℕ) (root : State) (floor : ℤ) (key : ℕ) (node : NodeBound) → AreNodeLinks nodes first root floor
+    → LeafAt key node (nodes_from (slab_len nodes) nodes first)
+    → IsBounded (state_from key (nodes_from (slab_len nodes) nodes first) (root ∷ []) root) node
+linked_bounded nodes first root floor key node a b = bounded_at floor key node (nodes_from (slab_len nodes) nodes first) (root ∷ []) root a.differ a.trees b

@@ -13,8 +13,8 @@ use Rattle.clu_cert.specs.Upper.{HasUpper}
 use Rattle.clu_tree.specs.declared.node.Standing.{Standing}
 use Rattle.clu_tree.specs.declared.node.Standing.TheVariants.{Unsplit, Split}
 use Rattle.clu_tree.specs.Nodes.{Shown, Tree, HasKey, HasLeaf, LeafAt, is_split, standing_bound, split_on, AreTrees, items_of, new_leaf, split_nodes}
-use Rattle.clu_tree.specs.Links.{shown, follow, AreLinked, AreQueued, IsWhole, IsUnsplit, Attached, SameNodes, Requeued, leaf_node, side_of}
-use Rattle.clu_tree.specs.Queue.{entry, IsBest}
+use Rattle.clu_tree.specs.Links.{shown, nodes_from, AreNodeLinks, AreQueued, IsWholeTree, IsUnsplit, Attached, SameNodes, Requeued, leaf_node, side_of}
+use Rattle.clu_tree.specs.Queue.{queue_entry, IsBest}
 use Rattle.clu_tree.proofs.SplitLaws.{leaf_key, key_kept, key_new, key_was}
 use Rattle.clu_tree.proofs.Arena.{some_one, key_node, unsplit_leaf, leaf_unsplit, one_shown, replaced, stays, split_shown, same_shown}
 use Rattle.clu_tree.proofs.KeyLaws.{split_is, unsplit_once}
@@ -41,7 +41,7 @@ leaf_of (Split branch) e = absurd (false≢true (sym e))
 -- the keys that were there are there, and the two new ones
 pub keys_there : (old new : Slab Node) (key : ℕ) (pair : ℕ × ℕ) (together apart : Fresh) (keys : ℕ × ℕ) (es fs : List (ℤ × Reverse ℕ)) (b c : ℤ)
     → IsSome (get old key) → Attached old new key pair together apart keys → Pushed es fs b c keys.0 keys.1
-    → ((d : ℤ) (k : ℕ) → Contains es (entry d k) → IsSome (get old k)) → (d : ℤ) (k : ℕ) → Contains fs (entry d k) → IsSome (get new k)
+    → ((d : ℤ) (k : ℕ) → Contains es (queue_entry d k) → IsSome (get old k)) → (d : ℤ) (k : ℕ) → Contains fs (queue_entry d k) → IsSome (get new k)
 keys_there old new key pair together apart keys es fs b c h a p f d k i =
     let n = is_there (get old key) h in
     ⊎_elim
@@ -59,8 +59,8 @@ keys_there old new key pair together apart keys es fs b c h a p f d k i =
 
 -- the entries after two pushes, less those of split nodes
 pub requeued : (nodes : Slab Node) (old two new : List (ℤ × Reverse ℕ)) (b c : ℤ) (keys : ℕ × ℕ) → Pushed old two b c keys.0 keys.1
-    → ((d : ℤ) (k : ℕ) → Contains new (entry d k) → Contains two (entry d k))
-    → ((d : ℤ) (k : ℕ) → Contains two (entry d k) → IsUnsplit nodes k → Contains new (entry d k))
+    → ((d : ℤ) (k : ℕ) → Contains new (queue_entry d k) → Contains two (queue_entry d k))
+    → ((d : ℤ) (k : ℕ) → Contains two (queue_entry d k) → IsUnsplit nodes k → Contains new (queue_entry d k))
     → ((d : ℤ) (k : ℕ) → IsBest new d k → IsUnsplit nodes k) → Requeued nodes old new b c keys
 requeued nodes old two new b c keys p less leaves best = record {
   known = λ d k h. p.was d k (less d k h);
@@ -72,10 +72,10 @@ requeued nodes old two new b c keys p less leaves best = record {
 
 -- ---- after a split
 module _ (old new : Slab Node) (first : ℕ) (root : State) (floor : ℤ) (key : ℕ) (node : NodeBound) (pair : ℕ × ℕ) (together apart : Fresh) (keys : ℕ × ℕ)
-    (es fs : List (ℤ × Reverse ℕ)) (l : AreLinked old first root floor) (o : LeafAt key node (follow (slab_len old) old first))
-    (a : Attached old new key pair together apart keys) (z : AreQueued old (follow (slab_len old) old first) es)
+    (es fs : List (ℤ × Reverse ℕ)) (l : AreNodeLinks old first root floor) (o : LeafAt key node (nodes_from (slab_len old) old first))
+    (a : Attached old new key pair together apart keys) (z : AreQueued old (nodes_from (slab_len old) old first) es)
     (g : Requeued new es fs together.bound.bound apart.bound.bound keys) where
-  now_split : follow (slab_len new) new first ≡ split_nodes key pair (new_leaf keys.0 together) (new_leaf keys.1 apart) (follow (slab_len old) old first)
+  now_split : nodes_from (slab_len new) new first ≡ split_nodes key pair (new_leaf keys.0 together) (new_leaf keys.1 apart) (nodes_from (slab_len old) old first)
   now_split = split_shown old new first root floor key node pair together apart keys l o a
 
   -- the node that is split
@@ -86,21 +86,21 @@ module _ (old new : Slab Node) (first : ℕ) (root : State) (floor : ℤ) (key :
   same_node k m e d = stays old new key pair keys has.0 _ _ (replaced old new key pair together apart keys has.0 has.1 a) k m e d
 
   -- a leaf is queued: a new one,
-  new_queued : (k : ℕ) (n : Node) (m : NodeBound) → get new k ≡ Some n → n.standing ≡ Unsplit m → (keys.0 ≡ k) ⊎ (keys.1 ≡ k) → Contains fs (entry m.bound k)
+  new_queued : (k : ℕ) (n : Node) (m : NodeBound) → get new k ≡ Some n → n.standing ≡ Unsplit m → (keys.0 ≡ k) ⊎ (keys.1 ≡ k) → Contains fs (queue_entry m.bound k)
   new_queued k n m e c (inl i) =
       let x = leaf_node together keys.1 (side_of key (Together pair.0 pair.1)) in
       let same : x ≡ n = some_one (get new k) x n (ap (get new) (sym i) ∙ a.first) e in
-      subst (λ (r : NodeBound). Contains fs (entry r.bound k)) (unsplit_once together.bound m (ap (λ (r : Node). r.standing) same ∙ c))
-      (subst (λ (j : ℕ). Contains fs (entry together.bound.bound j)) i (g.first (x, a.first, record { node = together.bound; is = refl })))
+      subst (λ (r : NodeBound). Contains fs (queue_entry r.bound k)) (unsplit_once together.bound m (ap (λ (r : Node). r.standing) same ∙ c))
+      (subst (λ (j : ℕ). Contains fs (queue_entry together.bound.bound j)) i (g.first (x, a.first, record { node = together.bound; is = refl })))
   new_queued k n m e c (inr i) =
       let y = leaf_node apart has.0.next (side_of key (Apart pair.0 pair.1)) in
       let same : y ≡ n = some_one (get new k) y n (ap (get new) (sym i) ∙ a.second has.0 has.1) e in
-      subst (λ (r : NodeBound). Contains fs (entry r.bound k)) (unsplit_once apart.bound m (ap (λ (r : Node). r.standing) same ∙ c))
-      (subst (λ (j : ℕ). Contains fs (entry apart.bound.bound j)) i (g.second (y, a.second has.0 has.1, record { node = apart.bound; is = refl })))
+      subst (λ (r : NodeBound). Contains fs (queue_entry r.bound k)) (unsplit_once apart.bound m (ap (λ (r : Node). r.standing) same ∙ c))
+      (subst (λ (j : ℕ). Contains fs (queue_entry apart.bound.bound j)) i (g.second (y, a.second has.0 has.1, record { node = apart.bound; is = refl })))
 
   -- and an old one
-  old_queued : (k : ℕ) (n : Node) (m : NodeBound) → get new k ≡ Some n → n.standing ≡ Unsplit m → HasKey k (follow (slab_len old) old first)
-      → Contains fs (entry m.bound k)
+  old_queued : (k : ℕ) (n : Node) (m : NodeBound) → get new k ≡ Some n → n.standing ≡ Unsplit m → HasKey k (nodes_from (slab_len old) old first)
+      → Contains fs (queue_entry m.bound k)
   old_queued k n m e c h = ⊎_elim
       (λ i.
       let was = record has.0 { standing = split_on pair has.0.standing; next = keys.0 } in
@@ -113,33 +113,33 @@ module _ (old new : Slab Node) (first : ℕ) (root : State) (floor : ℤ) (key :
       g.kept m.bound k (z.leaves k m was) (n, e, record { node = m; is = c }))
       (cases_eq k key)
 
-  leaves : (k : ℕ) (m : NodeBound) → LeafAt k m (follow (slab_len new) new first) → Contains fs (entry m.bound k)
+  leaves : (k : ℕ) (m : NodeBound) → LeafAt k m (nodes_from (slab_len new) new first) → Contains fs (queue_entry m.bound k)
   leaves k m h =
       let w = leaf_unsplit (slab_len new) new first k m h in
       ⊎_elim (new_queued k w.0 m w.1 w.2) (old_queued k w.0 m w.1 w.2)
-      (key_was k key pair (new_leaf keys.0 together) (new_leaf keys.1 apart) (follow (slab_len old) old first)
-      (subst (HasKey k) now_split (leaf_key k m (follow (slab_len new) new first) h)))
+      (key_was k key pair (new_leaf keys.0 together) (new_leaf keys.1 apart) (nodes_from (slab_len old) old first)
+      (subst (HasKey k) now_split (leaf_key k m (nodes_from (slab_len new) new first) h)))
 
   -- an entry is a node's: a new one's,
   new_known : (b : ℤ) (k : ℕ) → ((b ≡ together.bound.bound) × (k ≡ keys.0)) ⊎ ((b ≡ apart.bound.bound) × (k ≡ keys.1))
-      → HasKey k (follow (slab_len new) new first) × ((n : Node) × (get new k ≡ Some n) × (standing_bound n.standing ≡ b))
+      → HasKey k (nodes_from (slab_len new) new first) × ((n : Node) × (get new k ≡ Some n) × (standing_bound n.standing ≡ b))
   new_known b k (inl e) = (
-    subst (HasKey k) (sym now_split) (subst (λ j. HasKey j (split_nodes key pair (new_leaf keys.0 together) (new_leaf keys.1 apart) (follow (slab_len old) old first)))
-        (sym e.1) (key_new key node pair (new_leaf keys.0 together) (new_leaf keys.1 apart) (follow (slab_len old) old first) o).0),
+    subst (HasKey k) (sym now_split) (subst (λ j. HasKey j (split_nodes key pair (new_leaf keys.0 together) (new_leaf keys.1 apart) (nodes_from (slab_len old) old first)))
+        (sym e.1) (key_new key node pair (new_leaf keys.0 together) (new_leaf keys.1 apart) (nodes_from (slab_len old) old first) o).0),
     (leaf_node together keys.1 (side_of key (Together pair.0 pair.1)), ap (get new) e.1 ∙ a.first, sym e.0),
   )
   new_known b k (inr e) = (
-    subst (HasKey k) (sym now_split) (subst (λ j. HasKey j (split_nodes key pair (new_leaf keys.0 together) (new_leaf keys.1 apart) (follow (slab_len old) old first)))
-        (sym e.1) (key_new key node pair (new_leaf keys.0 together) (new_leaf keys.1 apart) (follow (slab_len old) old first) o).1),
+    subst (HasKey k) (sym now_split) (subst (λ j. HasKey j (split_nodes key pair (new_leaf keys.0 together) (new_leaf keys.1 apart) (nodes_from (slab_len old) old first)))
+        (sym e.1) (key_new key node pair (new_leaf keys.0 together) (new_leaf keys.1 apart) (nodes_from (slab_len old) old first) o).1),
     (leaf_node apart has.0.next (side_of key (Apart pair.0 pair.1)), ap (get new) e.1 ∙ a.second has.0 has.1, sym e.0),
   )
 
   -- or an old one's
-  old_known : (b : ℤ) (k : ℕ) → Contains es (entry b k)
-      → HasKey k (follow (slab_len new) new first) × ((n : Node) × (get new k ≡ Some n) × (standing_bound n.standing ≡ b))
+  old_known : (b : ℤ) (k : ℕ) → Contains es (queue_entry b k)
+      → HasKey k (nodes_from (slab_len new) new first) × ((n : Node) × (get new k ≡ Some n) × (standing_bound n.standing ≡ b))
   old_known b k h =
       let w = z.known b k h in (
-        subst (HasKey k) (sym now_split) (key_kept k key pair (new_leaf keys.0 together) (new_leaf keys.1 apart) (follow (slab_len old) old first) w.0),
+        subst (HasKey k) (sym now_split) (key_kept k key pair (new_leaf keys.0 together) (new_leaf keys.1 apart) (nodes_from (slab_len old) old first) w.0),
         ⊎_elim
             (λ e. (
               record has.0 { standing = split_on pair has.0.standing; next = keys.0 },
@@ -150,11 +150,11 @@ module _ (old new : Slab Node) (first : ℕ) (root : State) (floor : ℤ) (key :
             (cases_eq k key),
       )
 
-  known : (b : ℤ) (k : ℕ) → Contains fs (entry b k)
-      → HasKey k (follow (slab_len new) new first) × ((n : Node) × (get new k ≡ Some n) × (standing_bound n.standing ≡ b))
+  known : (b : ℤ) (k : ℕ) → Contains fs (queue_entry b k)
+      → HasKey k (nodes_from (slab_len new) new first) × ((n : Node) × (get new k ≡ Some n) × (standing_bound n.standing ≡ b))
   known b k h = ⊎_elim (new_known b k) (old_known b k) (g.known b k h)
 
-  best : (b : ℤ) (k : ℕ) → IsBest fs b k → (m : NodeBound) × LeafAt k m (follow (slab_len new) new first) × (m.bound ≡ b)
+  best : (b : ℤ) (k : ℕ) → IsBest fs b k → (m : NodeBound) × LeafAt k m (nodes_from (slab_len new) new first) × (m.bound ≡ b)
   best b k h =
       let u = g.best b k h in
       let w = known b k h.there in
@@ -162,14 +162,14 @@ module _ (old new : Slab Node) (first : ℕ) (root : State) (floor : ℤ) (key :
       let is = ap (λ (m : Node). m.standing) same ∙ u.2.is in
       (u.2.node, unsplit_leaf (slab_len new) new first k u.2.node w.1.0 w.0 w.1.1 is, sym (ap standing_bound is) ∙ w.1.2)
 
-  pub split_queued : AreQueued new (follow (slab_len new) new first) fs
+  pub split_queued : AreQueued new (nodes_from (slab_len new) new first) fs
   split_queued = record { leaves = leaves; known = known; best = best }
 
 -- ---- an arena that has the same nodes
 pub same_queued : (old new : Slab Node) (first : ℕ) (es fs : List (ℤ × Reverse ℕ)) → SameNodes old new → fs ≡ es
-    → AreQueued old (follow (slab_len old) old first) es → AreQueued new (follow (slab_len new) new first) fs
+    → AreQueued old (nodes_from (slab_len old) old first) es → AreQueued new (nodes_from (slab_len new) new first) fs
 same_queued old new first es fs s e z =
-    subst (AreQueued new (follow (slab_len new) new first)) (sym e)
+    subst (AreQueued new (nodes_from (slab_len new) new first)) (sym e)
     (subst (λ ns. AreQueued new ns es) (sym (same_shown old new first s)) (record {
       leaves = z.leaves;
       known = λ b k h. let w = z.known b k h in (w.0, (w.1.0, s.each k ∙ w.1.1, w.1.2));
@@ -178,7 +178,7 @@ same_queued old new first es fs s e z =
 
 -- ---- a new tree
 pub one_queued : (nodes : Slab Node) (first : ℕ) (n : Node) (node : NodeBound) (es fs : List (ℤ × Reverse ℕ)) → get nodes first ≡ Some n → slab_len nodes ≡ 1 → n.standing ≡ Unsplit node
-    → es ≡ [] → IsPermutation (entry node.bound first ∷ es) fs → AreQueued nodes (follow (slab_len nodes) nodes first) fs
+    → es ≡ [] → IsPermutation (queue_entry node.bound first ∷ es) fs → AreQueued nodes (nodes_from (slab_len nodes) nodes first) fs
 one_queued nodes first n node es fs e l c s p = subst (λ ns. AreQueued nodes ns fs) (sym (one_shown nodes first n e l)) (record {
   leaves = λ k m h. by_leaf k m h;
   known = λ b k h. let w = only b k h in
@@ -191,13 +191,13 @@ one_queued nodes first n node es fs e l c s p = subst (λ ns. AreQueued nodes ns
     empty : (x : ℤ × Reverse ℕ) → Contains [] x → ⊥
     empty x i = let h = i.1 in omega (arith, h)
 
-    only : (b : ℤ) (k : ℕ) → Contains fs (entry b k) → entry node.bound first ≡ entry b k
-    only b k h = ⊎_elim (λ i. i) (λ i. absurd (empty (entry b k) (subst (λ xs. Contains xs (entry b k)) s i)))
-        (pushed_was es fs (entry node.bound first) (entry b k) p h)
+    only : (b : ℤ) (k : ℕ) → Contains fs (queue_entry b k) → queue_entry node.bound first ≡ queue_entry b k
+    only b k h = ⊎_elim (λ i. i) (λ i. absurd (empty (queue_entry b k) (subst (λ xs. Contains xs (queue_entry b k)) s i)))
+        (pushed_was es fs (queue_entry node.bound first) (queue_entry b k) p h)
 
-    by_leaf : (k : ℕ) (m : NodeBound) → LeafAt k m (shown first n ∷ []) → Contains fs (entry m.bound k)
-    by_leaf k m (inl h) = subst (λ (b : NodeBound). Contains fs (entry b.bound k)) (unsplit_once node m (sym c ∙ h.1))
-        (subst (λ (j : ℕ). Contains fs (entry node.bound j)) h.0 (pushed_in es fs (entry node.bound first) p))
+    by_leaf : (k : ℕ) (m : NodeBound) → LeafAt k m (shown first n ∷ []) → Contains fs (queue_entry m.bound k)
+    by_leaf k m (inl h) = subst (λ (b : NodeBound). Contains fs (queue_entry b.bound k)) (unsplit_once node m (sym c ∙ h.1))
+        (subst (λ (j : ℕ). Contains fs (queue_entry node.bound j)) h.0 (pushed_in es fs (queue_entry node.bound first) p))
     by_leaf k m (inr h) = absurd h
 
 -- ---- the best entry
@@ -227,11 +227,11 @@ best_greatest nodes t es b k q r h =
 
 -- for the answer of the queue
 pub top_greatest : (nodes : Slab Node) (first : ℕ) (root : State) (floor : ℤ) (es : List (ℤ × Reverse ℕ)) (now : Tree) (o : Option (ℤ × ℕ)) (x : ℤ × ℕ)
-    → IsWhole nodes first root floor es → record { root = root; floor = floor; nodes = follow (slab_len nodes) nodes first } ≡ now
+    → IsWholeTree nodes first root floor es → record { root = root; floor = floor; nodes = nodes_from (slab_len nodes) nodes first } ≡ now
     → IfSome o (λ top. IsBest es top.0 top.1) → o ≡ Some x → IsGreatest now x.0 x.1
 top_greatest nodes first root floor es now None x w v b e = absurd (cc)
 top_greatest nodes first root floor es now (Some top) x w v b e =
     let same : top ≡ x = cc in
     subst (λ (t : Tree). IsGreatest t x.0 x.1) v
-    (subst (λ (p : ℤ × ℕ). IsGreatest (record { root = root; floor = floor; nodes = follow (slab_len nodes) nodes first }) p.0 p.1) same
-    (best_greatest nodes (record { root = root; floor = floor; nodes = follow (slab_len nodes) nodes first }) es top.0 top.1 w.queued w.linked.trees b))
+    (subst (λ (p : ℤ × ℕ). IsGreatest (record { root = root; floor = floor; nodes = nodes_from (slab_len nodes) nodes first }) p.0 p.1) same
+    (best_greatest nodes (record { root = root; floor = floor; nodes = nodes_from (slab_len nodes) nodes first }) es top.0 top.1 w.queued w.linked.trees b))

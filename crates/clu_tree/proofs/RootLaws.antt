@@ -7,28 +7,28 @@ use Rattle.clu_state.specs.State.{State, IsState}
 use Rattle.clu_cert.specs.Valid.{stepped}
 use Rattle.clu_tree.specs.declared.node.Fresh.{Fresh}
 use Rattle.clu_tree.specs.declared.node.Node.{Node}
-use Rattle.clu_tree.specs.Nodes.{Shown, HasKey, AreTrees, IsFit, state_from}
-use Rattle.clu_tree.specs.Links.{shown, then_next, follow, Comes, AreClimbed, IsWhole, leaf_node}
-use Rattle.clu_tree.specs.Queue.{entry}
+use Rattle.clu_tree.specs.Nodes.{Shown, HasKey, AreTrees, MayStand, state_from}
+use Rattle.clu_tree.specs.Links.{shown, then_next, nodes_from, Comes, AreClimbed, IsWholeTree, leaf_node}
+use Rattle.clu_tree.specs.Queue.{queue_entry}
 use Rattle.clu_tree.proofs.SplitLaws.{state_here}
 use Rattle.clu_tree.proofs.Arena.{options, some_one, one_shown, one_linked}
 use Rattle.clu_tree.proofs.Queued.{one_queued}
 
 -- what the links show begins with the root
-begins : (more : ℕ) (nodes : Slab Node) (first : ℕ) (root : State) (floor : ℤ) → AreTrees floor (follow more nodes first) (root ∷ [])
-    → (n : Node) × (later : List Shown) × (follow more nodes first ≡ shown first n ∷ later)
+begins : (more : ℕ) (nodes : Slab Node) (first : ℕ) (root : State) (floor : ℤ) → AreTrees floor (nodes_from more nodes first) (root ∷ [])
+    → (n : Node) × (later : List Shown) × (nodes_from more nodes first ≡ shown first n ∷ later)
 begins zero nodes first root floor t = absurd t
 begins (suc more) nodes first root floor t = ⊎_elim
-    (λ e. absurd (subst (λ ns. AreTrees floor ns (root ∷ [])) (ap (λ o. then_next first o (λ next. follow more nodes next)) e) t))
-    (λ w. (w.0, follow more nodes w.0.next, ap (λ o. then_next first o (λ next. follow more nodes next)) w.1))
+    (λ e. absurd (subst (λ ns. AreTrees floor ns (root ∷ [])) (ap (λ o. then_next first o (λ next. nodes_from more nodes next)) e) t))
+    (λ w. (w.0, nodes_from more nodes w.0.next, ap (λ o. then_next first o (λ next. nodes_from more nodes next)) w.1))
     (options (get nodes first))
 
-pub root_key : (more : ℕ) (nodes : Slab Node) (first : ℕ) (root : State) (floor : ℤ) → AreTrees floor (follow more nodes first) (root ∷ [])
-    → HasKey first (follow more nodes first)
+pub root_key : (more : ℕ) (nodes : Slab Node) (first : ℕ) (root : State) (floor : ℤ) → AreTrees floor (nodes_from more nodes first) (root ∷ [])
+    → HasKey first (nodes_from more nodes first)
 root_key more nodes first root floor t = let w = begins more nodes first root floor t in subst (HasKey first) (sym w.2) (inl refl)
 
-pub root_state : (more : ℕ) (nodes : Slab Node) (first : ℕ) (root : State) (floor : ℤ) → AreTrees floor (follow more nodes first) (root ∷ [])
-    → (n : Shown) (ns : List Shown) → follow more nodes first ≡ n ∷ ns → state_from first (follow more nodes first) (root ∷ []) root ≡ stepped root n.steps
+pub root_state : (more : ℕ) (nodes : Slab Node) (first : ℕ) (root : State) (floor : ℤ) → AreTrees floor (nodes_from more nodes first) (root ∷ [])
+    → (n : Shown) (ns : List Shown) → nodes_from more nodes first ≡ n ∷ ns → state_from first (nodes_from more nodes first) (root ∷ []) root ≡ stepped root n.steps
 root_state more nodes first root floor t n ns e =
     let w = begins more nodes first root floor t in
     let same : shown first w.0 ≡ n = heads (shown first w.0) n w.1 ns (sym w.2 ∙ e) in
@@ -45,7 +45,7 @@ comes_top n root k m (inl e) s o = subst (Comes (n ∷ []) root k m.steps) (sym 
 comes_top n root k m (inr h) s o = absurd h
 
 one_climbed : (nodes : Slab Node) (first : ℕ) (n : Node) (root : State) → get nodes first ≡ Some n → slab_len nodes ≡ 1 → n.origin ≡ None
-    → AreClimbed nodes (follow (slab_len nodes) nodes first) root
+    → AreClimbed nodes (nodes_from (slab_len nodes) nodes first) root
 one_climbed nodes first n root e l o = subst (λ ns. AreClimbed nodes ns root) (sym (one_shown nodes first n e l))
     (λ k m h g.
     let same : n ≡ m = some_one (get nodes k) n m (ap (get nodes) (sym (only k h)) ∙ e) g in
@@ -56,8 +56,8 @@ one_climbed nodes first n root e l o = subst (λ ns. AreClimbed nodes ns root) (
     only k (inr q) = absurd q
 
 pub one_whole : (nodes : Slab Node) (first next : ℕ) (root : State) (floor : ℤ) (fresh : Fresh) (es fs : List (ℤ × Reverse ℕ))
-    → get nodes first ≡ Some (leaf_node fresh next None) → slab_len nodes ≡ 1 → IsState root → IsFit root fresh
-    → es ≡ [] → IsPermutation (entry fresh.bound.bound first ∷ es) fs → IsWhole nodes first root floor fs
+    → get nodes first ≡ Some (leaf_node fresh next None) → slab_len nodes ≡ 1 → IsState root → MayStand root fresh
+    → es ≡ [] → IsPermutation (queue_entry fresh.bound.bound first ∷ es) fs → IsWholeTree nodes first root floor fs
 one_whole nodes first next root floor fresh es fs e l i f s p = record {
   linked = one_linked nodes first next root floor fresh e l i f;
   climbed = one_climbed nodes first (leaf_node fresh next None) root e l refl;

@@ -9,7 +9,7 @@ use Rattle.clu_cert.specs.Valid.{stepped}
 use Rattle.clu_tree.specs.declared.node.Fresh.{Fresh}
 use Rattle.clu_tree.specs.declared.node.Standing.{Standing}
 use Rattle.clu_tree.specs.declared.node.Standing.TheVariants.{Unsplit}
-use Rattle.clu_tree.specs.Nodes.{Shown, standing_bound, standing_how, split_on, pending, state_from, HasKey, HasLeaf, LeafAt, Stands, AreTrees, IsFit, split_nodes}
+use Rattle.clu_tree.specs.Nodes.{Shown, standing_bound, standing_how, split_on, pending, state_from, HasKey, HasLeaf, LeafAt, Stands, AreTrees, MayStand, split_nodes}
 use Rattle.clu_tree.specs.Links.{NotAmong, KeysDiffer}
 
 -- what stands at a leaf
@@ -136,7 +136,7 @@ key_was k key pair x y (n ∷ ns) h = ⊎_elim
 
 -- ---- the trees
 -- a new leaf in front of trees
-leaf_tree : (floor : ℤ) (n : Shown) (ns : List Shown) (s : State) (later : List State) (e : HasLeaf n.standing) → IsFit s (fresh_of n e.node)
+leaf_tree : (floor : ℤ) (n : Shown) (ns : List Shown) (s : State) (later : List State) (e : HasLeaf n.standing) → MayStand s (fresh_of n e.node)
     → AreTrees floor ns later → AreTrees floor (n ∷ ns) (s ∷ later)
 leaf_tree floor n ns s later e f r = (
   f.steps,
@@ -147,8 +147,8 @@ leaf_tree floor n ns s later e f r = (
 pub split_trees : (floor : ℤ) (key : ℕ) (node : NodeBound) (pair : ℕ × ℕ) (x y : Shown) (ns : List Shown) (states : List State) (other : State)
     → KeysDiffer ns → LeafAt key node ns → AreTrees floor ns states → (ex : HasLeaf x.standing) → (ey : HasLeaf y.standing) → node.how ≢ Closed → floor <ℤ node.bound
     → IsFree (state_from key ns states other) pair.0 pair.1
-    → IsFit (decided (state_from key ns states other) (Together pair.0 pair.1)) (fresh_of x ex.node)
-    → IsFit (decided (state_from key ns states other) (Apart pair.0 pair.1)) (fresh_of y ey.node)
+    → MayStand (decided (state_from key ns states other) (Together pair.0 pair.1)) (fresh_of x ex.node)
+    → MayStand (decided (state_from key ns states other) (Apart pair.0 pair.1)) (fresh_of y ey.node)
     → AreTrees floor (split_nodes key pair x y ns) states
 split_trees floor key node pair x y [] states other d l r ex ey w z f a b = absurd l
 split_trees floor key node pair x y (n ∷ ns) [] other d l r ex ey w z f a b = absurd r
@@ -160,9 +160,9 @@ split_trees floor key node pair x y (n ∷ ns) (s ∷ later) other d l r ex ey w
       r.0,
       (subst (λ t. IsFree t pair.0 pair.1) p f, subst (λ (c : Standing). standing_how c ≢ Closed) (sym h) w, subst (λ (c : Standing). floor <ℤ standing_bound c) (sym h) z),
       leaf_tree floor x (y ∷ ns) (decided (stepped s n.steps) (Together pair.0 pair.1)) (decided (stepped s n.steps) (Apart pair.0 pair.1) ∷ later) ex
-          (subst (λ t. IsFit (decided t (Together pair.0 pair.1)) (fresh_of x ex.node)) p a)
+          (subst (λ t. MayStand (decided t (Together pair.0 pair.1)) (fresh_of x ex.node)) p a)
           (leaf_tree floor y ns (decided (stepped s n.steps) (Apart pair.0 pair.1)) later ey
-          (subst (λ t. IsFit (decided t (Apart pair.0 pair.1)) (fresh_of y ey.node)) p b)
+          (subst (λ t. MayStand (decided t (Apart pair.0 pair.1)) (fresh_of y ey.node)) p b)
           (subst (λ c. AreTrees floor ns (pending c (stepped s n.steps) later)) h r.2)),
     ))
     (λ e.
@@ -172,8 +172,8 @@ split_trees floor key node pair x y (n ∷ ns) (s ∷ later) other d l r ex ey w
       r.1,
       split_trees floor key node pair x y ns (pending n.standing (stepped s n.steps) later) other d.1 (leaf_later key node n ns e l) r.2 ex ey w z
           (subst (λ t. IsFree t pair.0 pair.1) p f)
-          (subst (λ t. IsFit (decided t (Together pair.0 pair.1)) (fresh_of x ex.node)) p a)
-          (subst (λ t. IsFit (decided t (Apart pair.0 pair.1)) (fresh_of y ey.node)) p b),
+          (subst (λ t. MayStand (decided t (Together pair.0 pair.1)) (fresh_of x ex.node)) p a)
+          (subst (λ t. MayStand (decided t (Apart pair.0 pair.1)) (fresh_of y ey.node)) p b),
     ))
     (cases_eq n.key key)
 

@@ -10,8 +10,8 @@ use Rattle.clu_tree.specs.declared.node.Fresh.{Fresh}
 use Rattle.clu_tree.specs.declared.node.Node.{Node}
 use Rattle.clu_tree.specs.Items.{branch_items}
 use Rattle.clu_tree.specs.declared.node.Standing.TheVariants.{Unsplit}
-use Rattle.clu_tree.specs.Nodes.{Shown, Tree, items_of, split_on, state_at, LeafAt, IsOpen, IsFit, new_leaf, split_nodes}
-use Rattle.clu_tree.specs.Links.{follow, AreLinked, AreClimbed, IsWhole, Attached, SameNodes, Requeued, leaf_node, side_of}
+use Rattle.clu_tree.specs.Nodes.{Shown, Tree, items_of, split_on, state_at, LeafAt, IsOpenLeaf, MayStand, new_leaf, split_nodes}
+use Rattle.clu_tree.specs.Links.{nodes_from, AreNodeLinks, AreClimbed, IsWholeTree, Attached, SameNodes, Requeued, leaf_node, side_of}
 use Rattle.clu_tree.proofs.SplitLaws.{split_here, split_later}
 use Rattle.clu_tree.proofs.Climb.{climbed_split}
 use Rattle.clu_tree.proofs.Arena.{leaf_unsplit, vacant_not_among, split_shown, split_linked, same_shown, same_linked}
@@ -21,18 +21,18 @@ use Rattle.clu_tree.proofs.Uppers.{branches_length}
 
 -- the tree that the fields show
 abbrev pub tree_of : Slab Node → ℕ → State → ℤ → Tree
-tree_of nodes first root floor = record { root = root; floor = floor; nodes = follow (slab_len nodes) nodes first }
+tree_of nodes first root floor = record { root = root; floor = floor; nodes = nodes_from (slab_len nodes) nodes first }
 
 -- ---- each node still comes from where it says
 split_climbed : (old new : Slab Node) (first : ℕ) (root : State) (floor : ℤ) (key : ℕ) (node : NodeBound) (pair : ℕ × ℕ) (together apart : Fresh) (keys : ℕ × ℕ)
-    → AreLinked old first root floor → LeafAt key node (follow (slab_len old) old first) → Attached old new key pair together apart keys
-    → AreClimbed old (follow (slab_len old) old first) root → AreClimbed new (follow (slab_len new) new first) root
+    → AreNodeLinks old first root floor → LeafAt key node (nodes_from (slab_len old) old first) → Attached old new key pair together apart keys
+    → AreClimbed old (nodes_from (slab_len old) old first) root → AreClimbed new (nodes_from (slab_len new) new first) root
 split_climbed old new first root floor key node pair together apart keys l o a c =
     let w = leaf_unsplit (slab_len old) old first key node o in
     subst (λ ns. AreClimbed new ns root) (sym (split_shown old new first root floor key node pair together apart keys l o a))
     (climbed_split old new floor key node pair keys.0 keys.1 w.0 (record w.0 { standing = split_on pair w.0.standing; next = keys.0 })
     (leaf_node together keys.1 (side_of key (Together pair.0 pair.1))) (leaf_node apart w.0.next (side_of key (Apart pair.0 pair.1)))
-    (follow (slab_len old) old first) root l.differ o l.trees
+    (nodes_from (slab_len old) old first) root l.differ o l.trees
     (vacant_not_among (slab_len old) old first keys.0 a.first_vacant) (vacant_not_among (slab_len old) old first keys.1 a.second_vacant) a.differ
     (record { node = together.bound; is = refl }) (record { node = apart.bound; is = refl })
     (record {
@@ -48,20 +48,20 @@ split_climbed old new first root floor key node pair together apart keys l o a c
     })
     c)
 
-same_climbed : (old new : Slab Node) (first : ℕ) (root : State) → SameNodes old new → AreClimbed old (follow (slab_len old) old first) root
-    → AreClimbed new (follow (slab_len new) new first) root
+same_climbed : (old new : Slab Node) (first : ℕ) (root : State) → SameNodes old new → AreClimbed old (nodes_from (slab_len old) old first) root
+    → AreClimbed new (nodes_from (slab_len new) new first) root
 same_climbed old new first root s c = subst (λ ns. AreClimbed new ns root) (sym (same_shown old new first s))
     (λ k n h e. c k n h (sym (s.each k) ∙ e))
 
 -- ---- the whole
 pub split_whole : {E : Type 0} (r : Result (ℕ × ℕ) E) (old new : Slab Node) (first : ℕ) (root : State) (floor : ℤ) (key : ℕ) (pair : ℕ × ℕ) (together apart : Fresh)
-    (es fs : List (ℤ × Reverse ℕ)) → IsWhole old first root floor es → IsOpen (tree_of old first root floor) key
+    (es fs : List (ℤ × Reverse ℕ)) → IsWholeTree old first root floor es → IsOpenLeaf (tree_of old first root floor) key
     → IsFree (state_at (tree_of old first root floor) key) pair.0 pair.1
-    → IsFit (decided (state_at (tree_of old first root floor) key) (Together pair.0 pair.1)) together
-    → IsFit (decided (state_at (tree_of old first root floor) key) (Apart pair.0 pair.1)) apart
+    → MayStand (decided (state_at (tree_of old first root floor) key) (Together pair.0 pair.1)) together
+    → MayStand (decided (state_at (tree_of old first root floor) key) (Apart pair.0 pair.1)) apart
     → IfOk r (λ keys. Attached old new key pair together apart keys)
     → IfOk r (λ keys. Requeued new es fs together.bound.bound apart.bound.bound keys)
-    → OnErr r (SameNodes old new) → OnErr r (fs ≡ es) → IsWhole new first root floor fs
+    → OnErr r (SameNodes old new) → OnErr r (fs ≡ es) → IsWholeTree new first root floor fs
 split_whole (Ok keys) old new first root floor key pair together apart es fs w o f t p a q same none = record {
   linked = split_linked old new first root floor key o.node pair together apart keys w.linked o.leaf a o.unclosed o.above f t p;
   climbed = split_climbed old new first root floor key o.node pair together apart keys w.linked o.leaf a w.climbed;
@@ -75,11 +75,11 @@ split_whole (Err e) old new first root floor key pair together apart es fs w o f
 
 -- the tree is that of the split, or as it was
 pub split_value : {E : Type 0} (r : Result (ℕ × ℕ) E) (old new : Slab Node) (first : ℕ) (root : State) (floor : ℤ) (key : ℕ) (pair : ℕ × ℕ) (together apart : Fresh)
-    (now : Tree) → AreLinked old first root floor → tree_of old first root floor ≡ now → IsOpen now key
+    (now : Tree) → AreNodeLinks old first root floor → tree_of old first root floor ≡ now → IsOpenLeaf now key
     → IfOk r (λ keys. Attached old new key pair together apart keys)
     → IfOk r (λ keys. tree_of new first root floor ≡ record now { nodes = split_nodes key pair (new_leaf keys.0 together) (new_leaf keys.1 apart) now.nodes })
 split_value (Ok keys) old new first root floor key pair together apart now l v o a =
-    let was = subst (λ (t : Tree). IsOpen t key) (sym v) o in
+    let was = subst (λ (t : Tree). IsOpenLeaf t key) (sym v) o in
     ap (λ ns. record { root = root; floor = floor; nodes = ns }) (split_shown old new first root floor key was.node pair together apart keys l was.leaf a)
     ∙ ap (λ (t : Tree). record t { nodes = split_nodes key pair (new_leaf keys.0 together) (new_leaf keys.1 apart) t.nodes }) v
 split_value (Err e) old new first root floor key pair together apart now l v o a = tt
@@ -127,16 +127,16 @@ bounds_were (Err x) now new key pair together apart e = tt
 
 -- ---- the branches
 pub one_branch : {E : Type 0} (r : Result (ℕ × ℕ) E) (old new : Slab Node) (first : ℕ) (root : State) (floor : ℤ) (key : ℕ) (pair : ℕ × ℕ) (together apart : Fresh)
-    (now : Tree) → AreLinked old first root floor → AreLinked new first root floor → tree_of old first root floor ≡ now
+    (now : Tree) → AreNodeLinks old first root floor → AreNodeLinks new first root floor → tree_of old first root floor ≡ now
     → IfOk r (λ keys. Attached old new key pair together apart keys)
-    → OnOk r (branch_items (items_of (follow (slab_len new) new first)) ≡ branch_items (items_of now.nodes) + 1)
+    → OnOk r (branch_items (items_of (nodes_from (slab_len new) new first)) ≡ branch_items (items_of now.nodes) + 1)
 one_branch (Ok keys) old new first root floor key pair together apart now l k v a =
-    let h = branches_length floor (follow (slab_len old) old first) root l.trees in
-    let i = branches_length floor (follow (slab_len new) new first) root k.trees in
+    let h = branches_length floor (nodes_from (slab_len old) old first) root l.trees in
+    let i = branches_length floor (nodes_from (slab_len new) new first) root k.trees in
     let b = l.all in
     let c = k.all in
     let d = a.len in
-    let e : branch_items (items_of (follow (slab_len new) new first)) ≡ branch_items (items_of (follow (slab_len old) old first)) + 1 =
+    let e : branch_items (items_of (nodes_from (slab_len new) new first)) ≡ branch_items (items_of (nodes_from (slab_len old) old first)) + 1 =
     omega (arith, h, i, b, c, d) in
     e ∙ ap (λ (t : Tree). branch_items (items_of t.nodes) + 1) v
 one_branch (Err x) old new first root floor key pair together apart now l k v a = tt

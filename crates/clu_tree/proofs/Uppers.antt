@@ -7,8 +7,8 @@ use Rattle.clu_state.specs.declared.decision.Decision.TheVariants.{Together, Apa
 use Rattle.clu_reduce.specs.Reduction.{decision_of}
 use Rattle.clu_reduce.specs.declared.step.Step.{Step}
 use Rattle.clu_node.specs.declared.bound.NodeBound.{NodeBound}
-use Rattle.clu_cert.specs.Upper.{Reads, none, branch, reduce, leaf, HasUpper}
-use Rattle.clu_cert.specs.Valid.{AllHold, stepped}
+use Rattle.clu_cert.specs.Upper.{ReadsItems, none, branch, reduce, leaf, HasUpper}
+use Rattle.clu_cert.specs.Valid.{StepsHold, stepped}
 use Rattle.clu_cert.specs.declared.certificate.Item.{Item}
 use Rattle.clu_cert.specs.declared.certificate.Item.TheVariants.{Reduce, Leaf}
 use Rattle.clu_tree.specs.Items.{branch_items}
@@ -27,20 +27,20 @@ leaf_bounds [] = []
 leaf_bounds (n ∷ ns) = with_bound n.standing (leaf_bounds ns)
 
 -- ---- the reading
-steps_read : (steps : List Step) (s : State) (later left : List State) (items : List Item) (bounds : List ℤ) → AllHold s steps
-    → Reads (stepped s steps ∷ later) items bounds left → Reads (s ∷ later) (map Reduce steps ++ items) bounds left
+steps_read : (steps : List Step) (s : State) (later left : List State) (items : List Item) (bounds : List ℤ) → StepsHold s steps
+    → ReadsItems (stepped s steps ∷ later) items bounds left → ReadsItems (s ∷ later) (map Reduce steps ++ items) bounds left
 steps_read [] s later left items bounds h r = r
 steps_read (step ∷ steps) s later left items bounds h r =
     reduce h.0 (steps_read steps (decided s (decision_of step)) later left items bounds h.1 r)
 
 item_reads : (floor : ℤ) (s : State) (later : List State) (standing : Standing) (items : List Item) (bounds : List ℤ)
-    → Stands floor s standing → Reads (pending standing s later) items bounds []
-    → Reads (s ∷ later) (node_item standing ∷ items) (with_bound standing bounds) []
+    → Stands floor s standing → ReadsItems (pending standing s later) items bounds []
+    → ReadsItems (s ∷ later) (node_item standing ∷ items) (with_bound standing bounds) []
 item_reads floor s later (Unsplit node) items bounds b r =
-    subst (λ bound. Reads (s ∷ later) (Leaf node.leaf ∷ items) (bound ∷ bounds) []) (sym b.bound) (leaf (record { den = b.den; rows = b.rows }) r)
+    subst (λ bound. ReadsItems (s ∷ later) (Leaf node.leaf ∷ items) (bound ∷ bounds) []) (sym b.bound) (leaf (record { den = b.den; rows = b.rows }) r)
 item_reads floor s later (Split _) items bounds b r = branch b.0 r
 
-trees_read : (floor : ℤ) (ns : List Shown) (states : List State) → AreTrees floor ns states → Reads states (items_of ns) (leaf_bounds ns) []
+trees_read : (floor : ℤ) (ns : List Shown) (states : List State) → AreTrees floor ns states → ReadsItems states (items_of ns) (leaf_bounds ns) []
 trees_read floor [] [] t = none
 trees_read floor [] (s ∷ later) t = absurd t
 trees_read floor (n ∷ ns) [] t = absurd t

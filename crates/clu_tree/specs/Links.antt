@@ -9,7 +9,7 @@ use Rattle.clu_reduce.specs.declared.step.Step.{Step}
 use Rattle.clu_node.specs.declared.bound.NodeBound.{NodeBound}
 use Rattle.clu_cert.specs.Valid.{stepped}
 use Rattle.clu_tree.specs.Nodes.{Shown, HasKey, HasLeaf, LeafAt, AreTrees, standing_bound, split_on, state_from}
-use Rattle.clu_tree.specs.Queue.{entry, IsBest}
+use Rattle.clu_tree.specs.Queue.{queue_entry, IsBest}
 use Rattle.clu_tree.specs.declared.node.Fresh.{Fresh}
 use Rattle.clu_tree.specs.declared.node.Node.{Node}
 use Rattle.clu_tree.specs.declared.node.Origin.{Origin}
@@ -23,9 +23,9 @@ then_next key None go = []
 then_next key (Some n) go = shown key n ∷ go n.next
 
 -- so many nodes from this key on, by their links
-abbrev pub follow : ℕ → Slab Node → ℕ → List Shown
-follow zero nodes key = []
-follow (suc more) nodes key = then_next key (get nodes key) (λ next. follow more nodes next)
+abbrev pub nodes_from : ℕ → Slab Node → ℕ → List Shown
+nodes_from zero nodes key = []
+nodes_from (suc more) nodes key = then_next key (get nodes key) (λ next. nodes_from more nodes next)
 
 -- no node has this key
 abbrev pub NotAmong : ℕ → List Shown → Type 0
@@ -38,11 +38,11 @@ KeysDiffer [] = Unit {0}
 KeysDiffer (n ∷ ns) = NotAmong n.key ns × KeysDiffer ns
 
 -- the links go through all nodes, and the tree that they show stands
-pub record AreLinked (nodes : Slab Node) (first : ℕ) (root : State) (floor : ℤ) : Type 0 where
+pub record AreNodeLinks (nodes : Slab Node) (first : ℕ) (root : State) (floor : ℤ) : Type 0 where
   pub state : IsState root
-  pub all : length (follow (slab_len nodes) nodes first) ≡ slab_len nodes
-  pub differ : KeysDiffer (follow (slab_len nodes) nodes first)
-  pub trees : AreTrees floor (follow (slab_len nodes) nodes first) (root ∷ [])
+  pub all : length (nodes_from (slab_len nodes) nodes first) ≡ slab_len nodes
+  pub differ : KeysDiffer (nodes_from (slab_len nodes) nodes first)
+  pub trees : AreTrees floor (nodes_from (slab_len nodes) nodes first) (root ∷ [])
 
 -- the state of the node with this key, from that of the node that it comes from
 abbrev pub Comes : List Shown → State → ℕ → List Step → Option Origin → Type 0
@@ -61,16 +61,16 @@ IsUnsplit nodes key = (n : Node) × (get nodes key ≡ Some n) × HasLeaf n.stan
 
 -- the queue has each leaf and nothing but nodes, and its best entry is a leaf's
 pub record AreQueued (nodes : Slab Node) (ns : List Shown) (entries : List (ℤ × Reverse ℕ)) : Type 0 where
-  pub leaves : (key : ℕ) (node : NodeBound) → LeafAt key node ns → Contains entries (entry node.bound key)
-  pub known : (bound : ℤ) (key : ℕ) → Contains entries (entry bound key)
+  pub leaves : (key : ℕ) (node : NodeBound) → LeafAt key node ns → Contains entries (queue_entry node.bound key)
+  pub known : (bound : ℤ) (key : ℕ) → Contains entries (queue_entry bound key)
       → HasKey key ns × ((n : Node) × (get nodes key ≡ Some n) × (standing_bound n.standing ≡ bound))
   pub best : (bound : ℤ) (key : ℕ) → IsBest entries bound key → (node : NodeBound) × LeafAt key node ns × (node.bound ≡ bound)
 
 -- what the fields of a tree keep
-pub record IsWhole (nodes : Slab Node) (first : ℕ) (root : State) (floor : ℤ) (entries : List (ℤ × Reverse ℕ)) : Type 0 where
-  pub linked : AreLinked nodes first root floor
-  pub climbed : AreClimbed nodes (follow (slab_len nodes) nodes first) root
-  pub queued : AreQueued nodes (follow (slab_len nodes) nodes first) entries
+pub record IsWholeTree (nodes : Slab Node) (first : ℕ) (root : State) (floor : ℤ) (entries : List (ℤ × Reverse ℕ)) : Type 0 where
+  pub linked : AreNodeLinks nodes first root floor
+  pub climbed : AreClimbed nodes (nodes_from (slab_len nodes) nodes first) root
+  pub queued : AreQueued nodes (nodes_from (slab_len nodes) nodes first) entries
 
 -- ---- a split
 -- a new leaf
@@ -99,9 +99,9 @@ pub record SameNodes (old new : Slab Node) : Type 0 where
 
 -- the queue has got two new entries, may have lost entries of split nodes, and its best entry is a leaf's
 pub record Requeued (nodes : Slab Node) (old new : List (ℤ × Reverse ℕ)) (together apart : ℤ) (keys : ℕ × ℕ) : Type 0 where
-  pub known : (bound : ℤ) (key : ℕ) → Contains new (entry bound key)
-      → (((bound ≡ together) × (key ≡ keys.0)) ⊎ ((bound ≡ apart) × (key ≡ keys.1))) ⊎ Contains old (entry bound key)
-  pub kept : (bound : ℤ) (key : ℕ) → Contains old (entry bound key) → IsUnsplit nodes key → Contains new (entry bound key)
-  pub first : IsUnsplit nodes keys.0 → Contains new (entry together keys.0)
-  pub second : IsUnsplit nodes keys.1 → Contains new (entry apart keys.1)
+  pub known : (bound : ℤ) (key : ℕ) → Contains new (queue_entry bound key)
+      → (((bound ≡ together) × (key ≡ keys.0)) ⊎ ((bound ≡ apart) × (key ≡ keys.1))) ⊎ Contains old (queue_entry bound key)
+  pub kept : (bound : ℤ) (key : ℕ) → Contains old (queue_entry bound key) → IsUnsplit nodes key → Contains new (queue_entry bound key)
+  pub first : IsUnsplit nodes keys.0 → Contains new (queue_entry together keys.0)
+  pub second : IsUnsplit nodes keys.1 → Contains new (queue_entry apart keys.1)
   pub best : (bound : ℤ) (key : ℕ) → IsBest new bound key → IsUnsplit nodes key

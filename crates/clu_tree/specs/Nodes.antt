@@ -7,7 +7,7 @@ use Rattle.clu_node.specs.Node.{IsBounded}
 use Rattle.clu_node.specs.declared.bound.NodeBound.{NodeBound}
 use Rattle.clu_node.specs.declared.bound.How.{How}
 use Rattle.clu_node.specs.declared.bound.How.TheVariants.{Closed}
-use Rattle.clu_cert.specs.Valid.{AllHold, stepped}
+use Rattle.clu_cert.specs.Valid.{StepsHold, stepped}
 use Rattle.clu_cert.specs.declared.certificate.Item.{Item}
 use Rattle.clu_cert.specs.declared.certificate.Item.TheVariants.{Branch, Reduce, Leaf}
 use Rattle.clu_tree.specs.declared.node.Fresh.{Fresh}
@@ -83,7 +83,7 @@ pub record IsLeaf (key : ℕ) (ns : List Shown) : Type 0 where
   pub leaf : LeafAt key node ns
 
 -- a leaf that may be split: it isn't closed, and its bound is above the floor
-pub record IsOpen (t : Tree) (key : ℕ) : Type 0 where
+pub record IsOpenLeaf (t : Tree) (key : ℕ) : Type 0 where
   pub node : NodeBound
   pub leaf : LeafAt key node t.nodes
   pub unclosed : node.how ≢ Closed
@@ -102,7 +102,7 @@ AreTrees floor [] [] = Unit {0}
 AreTrees floor [] (s ∷ later) = ⊥
 AreTrees floor (n ∷ ns) [] = ⊥
 AreTrees floor (n ∷ ns) (s ∷ later) =
-    AllHold s n.steps × Stands floor (stepped s n.steps) n.standing
+    StepsHold s n.steps × Stands floor (stepped s n.steps) n.standing
     × AreTrees floor ns (pending n.standing (stepped s n.steps) later)
 
 -- ---- what is read off
@@ -117,8 +117,8 @@ items_of (n ∷ ns) = map Reduce n.steps ++ node_item n.standing ∷ items_of ns
 
 -- ---- a split
 -- what stands at a new node of this state: reductions that hold in turn, and then what bounds it
-pub record IsFit (s : State) (fresh : Fresh) : Type 0 where
-  pub steps : AllHold s fresh.steps
+pub record MayStand (s : State) (fresh : Fresh) : Type 0 where
+  pub steps : StepsHold s fresh.steps
   pub bounded : IsBounded (stepped s fresh.steps) fresh.bound
 
 -- a new leaf

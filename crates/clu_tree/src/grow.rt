@@ -4,7 +4,7 @@
 
 ghost use Rattle.std.specs.Prelude.{◌≡◌, ℕ, ℤ, Contains, IfOk, OnErr};
 ghost use Rattle.slab.specs.Slab.{ContainsKey};
-ghost use Rattle.clu_tree.specs.Queue.{IsBest, entry};
+ghost use Rattle.clu_tree.specs.Queue.{IsBest, queue_entry};
 ghost use Rattle.clu_tree.specs.Links.{IsUnsplit, Attached, SameNodes, Requeued};
 
 use crate::node::{Fresh, Node, Origin, Standing};
@@ -25,7 +25,7 @@ pub(crate) fn grow(
     apart: Fresh,
 ) -> Result<(usize, usize), AllocError>
     requires key { ContainsKey nodes.old key }
-    requires known { (bound : ℤ) (key : ℕ) → Contains queue.old.entries (entry bound key)
+    requires known { (bound : ℤ) (key : ℕ) → Contains queue.old.entries (queue_entry bound key)
         → ContainsKey nodes.old key }
     ensures ok { IfOk result (λ keys. Attached nodes.old nodes.new key (u, v) together apart keys) }
     ensures queued { IfOk result (λ keys. Requeued nodes.new queue.old.entries queue.new.entries
@@ -86,11 +86,11 @@ fn attach(
 
 /// Entries of split nodes leave the queue, until its best entry is a leaf's.
 fn clear_split(queue: &mut Queue, nodes: &Slab<Node>)
-    requires { (bound : ℤ) (key : ℕ) → Contains queue.old.entries (entry bound key) → ContainsKey nodes.now key }
-    ensures less { (bound : ℤ) (key : ℕ) → Contains queue.new.entries (entry bound key)
-        → Contains queue.old.entries (entry bound key) }
-    ensures leaves { (bound : ℤ) (key : ℕ) → Contains queue.old.entries (entry bound key)
-        → IsUnsplit nodes.now key → Contains queue.new.entries (entry bound key) }
+    requires { (bound : ℤ) (key : ℕ) → Contains queue.old.entries (queue_entry bound key) → ContainsKey nodes.now key }
+    ensures less { (bound : ℤ) (key : ℕ) → Contains queue.new.entries (queue_entry bound key)
+        → Contains queue.old.entries (queue_entry bound key) }
+    ensures leaves { (bound : ℤ) (key : ℕ) → Contains queue.old.entries (queue_entry bound key)
+        → IsUnsplit nodes.now key → Contains queue.new.entries (queue_entry bound key) }
     ensures best { (bound : ℤ) (key : ℕ) → IsBest queue.new.entries bound key → IsUnsplit nodes.now key }
 {
     while let Some(top) = queue.top() {

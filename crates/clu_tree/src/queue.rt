@@ -3,7 +3,7 @@
 
 ghost use Rattle.std.specs.Prelude.{◌≡◌, ◌↔◌, ◌+◌, ◌<◌, ◌≤◌, ℕ, ℤ, [], ◌∷◌, length, IfSome, IsSome, OnOk};
 ghost use Rattle.std.specs.List.Sorted.{IsPermutation};
-ghost use Rattle.clu_tree.specs.Queue.{IsBest, entry};
+ghost use Rattle.clu_tree.specs.Queue.{IsBest, queue_entry};
 
 use std::alloc::{AllocError, Global};
 use std::cmp::Reverse;
@@ -49,7 +49,7 @@ impl Queue {
     /// Puts an entry in.
     pub(crate) fn push(&mut self, bound: i128, key: usize)
         requires { 0 < self.old.room }
-        ensures entries { IsPermutation (entry bound key ∷ self.old.entries) self.new.entries }
+        ensures entries { IsPermutation (queue_entry bound key ∷ self.old.entries) self.new.entries }
         ensures room { self.old.room ≤ self.new.room + 1 }
     {
         let _ = self.heap.push((bound, Reverse(key)));
@@ -71,7 +71,7 @@ impl Queue {
         requires { 0 < length self.old.entries }
         ensures shorter { length self.new.entries < length self.old.entries }
         ensures best { (bound : ℤ) × (key : ℕ) × IsBest self.old.entries bound key
-            × IsPermutation self.old.entries (entry bound key ∷ self.new.entries) }
+            × IsPermutation self.old.entries (queue_entry bound key ∷ self.new.entries) }
     {
         let _ = self.heap.pop();
     }

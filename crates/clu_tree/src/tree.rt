@@ -14,8 +14,8 @@ ghost use Rattle.clu_cert.specs.Fits.{ItemFits};
 ghost use Rattle.clu_cert.specs.Valid.{stepped};
 ghost use Rattle.clu_cert.specs.declared.certificate.Item.TheVariants.{Reduce};
 ghost use Rattle.clu_tree.specs.Items.{branch_items, RowsCounted};
-ghost use Rattle.clu_tree.specs.Nodes.{Shown, HasKey, IsLeaf, LeafAt, IsOpen, IsFit, state_at, node_item, items_of, new_leaf, split_nodes};
-ghost use Rattle.clu_tree.specs.Links.{KeysDiffer, follow};
+ghost use Rattle.clu_tree.specs.Nodes.{Shown, HasKey, IsLeaf, LeafAt, IsOpenLeaf, MayStand, state_at, node_item, items_of, new_leaf, split_nodes};
+ghost use Rattle.clu_tree.specs.Links.{KeysDiffer, nodes_from};
 
 use crate::grow::{bound_of, grow};
 use crate::node::{Fresh, Node, Standing};
@@ -49,17 +49,17 @@ pub struct Tree<'p> {
 impl<'p> Model for Tree<'p> {
     ghost use Rattle.slab.specs.Slab.{slab_len};
     ghost use Rattle.clu_tree.specs.Nodes.{Tree as Shape};
-    ghost use Rattle.clu_tree.specs.Links.{follow, IsWhole};
+    ghost use Rattle.clu_tree.specs.Links.{nodes_from, IsWholeTree};
 
     ghost Value = { Shape };
 
     ghost view = { λ t. record {
       root = record { pairs = t.pairs.now; start = t.start.now; members = t.members; decisions = t.given };
       floor = t.floor;
-      nodes = follow (slab_len t.nodes) t.nodes t.first;
+      nodes = nodes_from (slab_len t.nodes) t.nodes t.first;
     } };
 
-    ghost invariant = { λ t. IsWhole t.nodes t.first
+    ghost invariant = { λ t. IsWholeTree t.nodes t.first
         (record { pairs = t.pairs.now; start = t.start.now; members = t.members; decisions = t.given })
         t.floor t.queue.entries };
 }
@@ -76,7 +76,7 @@ impl<'p> Tree<'p> {
         root: Fresh,
     ) -> Result<Tree<'p>, AllocError>
         requires state { IsState (record { pairs = pairs.now; start = start.now; members = members.now; decisions = given.now }) }
-        requires fit { IsFit (record { pairs = pairs.now; start = start.now; members = members.now; decisions = given.now }) root }
+        requires fit { MayStand (record { pairs = pairs.now; start = start.now; members = members.now; decisions = given.now }) root }
         ensures { IfOk result (λ t. (key : ℕ) × (t ≡ record {
           root = record { pairs = pairs.now; start = start.now; members = members.now; decisions = given.now };
           floor = floor;
@@ -135,10 +135,10 @@ impl<'p> Tree<'p> {
         together: Fresh,
         apart: Fresh,
     ) -> Result<(usize, usize), AllocError>
-        requires open { IsOpen self.old key }
+        requires open { IsOpenLeaf self.old key }
         requires free { IsFree (state_at self.old key) u v }
-        requires together { IsFit (decided (state_at self.old key) (Together u v)) together }
-        requires apart { IsFit (decided (state_at self.old key) (Apart u v)) apart }
+        requires together { MayStand (decided (state_at self.old key) (Together u v)) together }
+        requires apart { MayStand (decided (state_at self.old key) (Apart u v)) apart }
         ensures ok { IfOk result (λ keys. self.new ≡ record self.old {
           nodes = split_nodes key (u, v) (new_leaf keys.0 together) (new_leaf keys.1 apart) self.old.nodes;
         }) }
@@ -228,9 +228,9 @@ impl<'p> Tree<'p> {
 /// The items of all nodes along the links. Each node is taken out of the arena, and no key is in it
 /// once the last one is out, whatever that one names as the next.
 fn items_from(alloc: Global, mut nodes: Slab<Node>, first: usize) -> Result<Seq<Item>, AllocError>
-    requires all { length (follow (slab_len nodes) nodes first) ≡ slab_len nodes }
-    requires differ { KeysDiffer (follow (slab_len nodes) nodes first) }
-    ensures value { IfOk result (λ items. items ≡ items_of (follow (slab_len nodes) nodes first)) }
+    requires all { length (nodes_from (slab_len nodes) nodes first) ≡ slab_len nodes }
+    requires differ { KeysDiffer (nodes_from (slab_len nodes) nodes first) }
+    ensures value { IfOk result (λ items. items ≡ items_of (nodes_from (slab_len nodes) nodes first)) }
     ensures counted { IfOk result (λ items. AllByRecursion RowsCounted items) }
 {
     let mut items = Seq::new(alloc);

@@ -6,6 +6,6 @@ use Rattle.clu_state.specs.State.{undecided}
 use Rattle.clu_tree.specs.Nodes.{Tree}
 
 -- the root is a state of these members, and nodes are split where their bound is above 0
-pub record HasRoot (pairs : Pairs) (start : Closed) (members : List ℕ) (t : Tree) : Type 0 where
+pub record GrowsFrom (pairs : Pairs) (start : Closed) (members : List ℕ) (t : Tree) : Type 0 where
   pub root : record t.root { decisions = [] } ≡ undecided pairs start members
   pub floor : t.floor ≡ pos 0

@@ -4,8 +4,8 @@
 ghost use Rattle.std.specs.Prelude.{◌≡◌, ◌^◌, ◌≤ℤ◌, pos, length, IfOk, OnOk};
 ghost use Rattle.clu_partition.specs.Pairs.{total_of};
 ghost use Rattle.clu_state.specs.State.{AreMembers, IsFree, decided as state_after};
-ghost use Rattle.clu_tree.specs.Nodes.{HasKey, IsFit, IsOpen, state_at};
-ghost use Rattle.clu_worked.specs.Roots.{HasRoot};
+ghost use Rattle.clu_tree.specs.Nodes.{HasKey, MayStand, IsOpenLeaf, state_at};
+ghost use Rattle.clu_worked.specs.Roots.{GrowsFrom};
 
 use crate::fixtures::{Decisions, PATH, Weights, decide, decision_of, listed, weighed};
 use clu_cert::Item;
@@ -112,7 +112,7 @@ fn rebuilt<'p>(
 
 /// What stands at a node of this state: no reductions, and what bounds it, where 0 is known.
 fn fresh<S: Situation>(alloc: Global, state: &S) -> Result<Fresh, AllocError>
-    ensures { IfOk result (λ fresh. IsFit (S.state state.now) fresh) }
+    ensures { IfOk result (λ fresh. MayStand (S.state state.now) fresh) }
 {
     let _members = state.members();
     let mut scratch = Scratch::new(alloc, 1000)?;
@@ -135,7 +135,7 @@ fn rooted<'p>(
     requires one_size { pairs.now.n ≡ length start.now.group }
     requires total { total_of pairs.now ≤ℤ pos (2 ^ 88) }
     requires members { AreMembers start.now members.now }
-    ensures { IfOk result (λ t. HasRoot pairs.now start.now members.now t) }
+    ensures { IfOk result (λ t. GrowsFrom pairs.now start.now members.now t) }
 {
     let state = rebuilt(rt, alloc, pairs, start, members, given)?;
     let root = fresh(alloc, &state)?;
@@ -154,9 +154,9 @@ fn child(
     key: usize,
     last: Decision,
 ) -> Result<Fresh, AllocError>
-    requires root { HasRoot pairs.now start.now members.now tree.now }
+    requires root { GrowsFrom pairs.now start.now members.now tree.now }
     requires key { HasKey key tree.now.nodes }
-    ensures { IfOk result (λ fresh. IsFit (state_after (state_at tree.now key) last) fresh) }
+    ensures { IfOk result (λ fresh. MayStand (state_after (state_at tree.now key) last) fresh) }
 {
     let path = tree.path(alloc, key)?;
     let mut state = rebuilt(rt, alloc, pairs, start, members, &path)?;
@@ -168,7 +168,7 @@ fn child(
 fn open_leaf(rt: &impl Abort, tree: &Tree) -> (usize, (Vertex, Vertex))
     requires { tree.now.floor ≡ pos 0 }
     ensures key { HasKey result.0 tree.now.nodes }
-    ensures open { IsOpen tree.now result.0 }
+    ensures open { IsOpenLeaf tree.now result.0 }
     ensures free { IsFree (state_at tree.now result.0) result.1.0 result.1.1 }
 {
     let Some(key) = tree.best_leaf(0) else {
@@ -193,8 +193,8 @@ fn split_best(
     members: &[Vertex],
     tree: &mut Tree,
 ) -> Result<(), AllocError>
-    requires { HasRoot pairs.now start.now members.now tree.old }
-    ensures { OnOk result (HasRoot pairs.now start.now members.now tree.new) }
+    requires { GrowsFrom pairs.now start.now members.now tree.old }
+    ensures { OnOk result (GrowsFrom pairs.now start.now members.now tree.new) }
 {
     let (key, (u, v)) = open_leaf(rt, tree);
     let one = Decision::Together(u, v);

@@ -1,11 +1,11 @@
 use Rattle.std.proofs.Common.{◌≡◌, map, length, ◌++◌}
 use Rattle.std.specs.List.{AllByRecursion}
 use Rattle.clu_cert.specs.Text.{from_one}
-use Rattle.clu_cert.specs.Fits.{IsPlace}
+use Rattle.clu_cert.specs.Fits.{IndexFits}
 use Rattle.clu_cert.proofs.lists.before_slash.Given as goal
 
 abbrev pub invariant-loop-field : goal.invariant-loop-field
-invariant-loop-field l = record { fits : AllByRecursion IsPlace l.vertices; spelled : l.initial.rest ≡ map from_one l.vertices ++ l.rest }
+invariant-loop-field l = record { fits : AllByRecursion IndexFits l.vertices; spelled : l.initial.rest ≡ map from_one l.vertices ++ l.rest }
 
 abbrev pub decreases-loop-field : goal.decreases-loop-field
 decreases-loop-field l = length l.rest

@@ -1,5 +1,5 @@
 use Rattle.std.proofs.Common.{◌<◌, ℕ, List, ◌∙◌, ap, slice_index, sym, subst}
-use Rattle.clu_partition.specs.Closed.{IsOpen}
+use Rattle.clu_partition.specs.Closed.{BindsNothing}
 use Rattle.clu_partition.specs.Partition.{IsPartition}
 use Rattle.clu_search.specs.Count.{count}
 use Rattle.clu_cli.specs.Instances.{vertices_of, worth}
@@ -25,7 +25,7 @@ pub returns-clause-none_better : goal.returns-clause-none_better
 returns-clause-none_better c =
     let instance = c.args.input.now.instance in
     let start = c.in_ok-start.start in
-    let unbound : IsOpen (vertices_of instance) start = subst (λ (n : ℕ). IsOpen n start) c.n.ensures.n c.in_ok-start.ensures in
+    let unbound : BindsNothing (vertices_of instance) start = subst (λ (n : ℕ). BindsNothing n start) c.n.ensures.n c.in_ok-start.ensures in
     none_better instance c.args.input.now.problem c.requires.poses c.requires.prints c.in_ok-found.found.certificate.bound
     (λ labels. c.in_ok-found.ensures.none_better (slice_index labels) (all_permitted (vertices_of instance) start unbound (slice_index labels)))
 
@@ -37,7 +37,7 @@ returns-clause-searched c =
       problem = c.args.input.now.problem;
       poses = c.requires.poses;
       start = start;
-      unbound = subst (λ (n : ℕ). IsOpen n start) c.n.ensures.n c.in_ok-start.ensures;
+      unbound = subst (λ (n : ℕ). BindsNothing n start) c.n.ensures.n c.in_ok-start.ensures;
       valid = told.valid;
       exact = told.exact;
       counted = subst (λ (n : ℕ). n < count start) told.branchings told.counted;

@@ -4,7 +4,7 @@ use Rattle.std.proofs.lemmas.Int.{ints}
 use Rattle.std.proofs.lemmas.List.{drop_all, get_or_default}
 use Rattle.clu_partition.specs.Pairs.{Pairs, weight_of}
 use Rattle.clu_state.proofs.Bounds.{few_groups}
-use Rattle.clu_cuts.specs.Point.{listed}
+use Rattle.clu_cuts.specs.Point.{listed_share}
 use Rattle.clu_cuts.proofs.Places.{All-at, pair_places, groups_rise, rise_apart, more_filled}
 use Rattle.clu_cuts.proofs.shares.table_of.Goals as goal
 
@@ -31,7 +31,7 @@ place_in-j-requires-clause-listed g c =
 pub loop-k-init : goal.loop-k-init
 loop-k-init g c = record {
   size = c.in_ok-table.ensures.size;
-  left = λ i j li lj. c.in_ok-table.ensures.zero i j ∙ sym (ap (λ ps. listed ps (drop (length c.as_slice-pairs.result.now) c.as_slice-x.result.now) (slice_index c.args.groups.now i) (slice_index c.args.groups.now j)) (drop_all (length c.as_slice-pairs.result.now) c.as_slice-pairs.result.now (omega arith)));
+  left = λ i j li lj. c.in_ok-table.ensures.zero i j ∙ sym (ap (λ ps. listed_share ps (drop (length c.as_slice-pairs.result.now) c.as_slice-x.result.now) (slice_index c.args.groups.now i) (slice_index c.args.groups.now j)) (drop_all (length c.as_slice-pairs.result.now) c.as_slice-pairs.result.now (omega arith)));
 }
 
 pub loop-k-preserved : goal.loop-k-preserved
@@ -53,6 +53,6 @@ loop-k-preserved g c =
       left = more_filled c.args.groups.now c.loop-k.table c.set.new.self c.place_in-i.result c.place_in-j.result (c.loop-k.k - 1) c.index-pairs-k.result (pos 0) _ c.as_slice-pairs.result.now c.as_slice-x.result.now
           (rise_apart c.args.groups.now (groups_rise _ c.args.groups.now c.requires.valid c.requires.leaders)) c.loop-k.invariant.size c.set.ensures.grid c.place_in-i.ensures.within c.place_in-j.ensures.within both
           c.place_in-i.ensures.at (c.place_in-j.ensures.at ∙ ap (λ (p : ℕ × ℕ). p.1) turn) lp lx y c.set.ensures.changed
-          (subst (λ m. (a b : ℕ) → a < length c.args.groups.now → b < length c.args.groups.now → weight_of c.loop-k.table a b ≡ listed (drop m c.as_slice-pairs.result.now) (drop m c.as_slice-x.result.now) (slice_index c.args.groups.now a) (slice_index c.args.groups.now b))
+          (subst (λ m. (a b : ℕ) → a < length c.args.groups.now → b < length c.args.groups.now → weight_of c.loop-k.table a b ≡ listed_share (drop m c.as_slice-pairs.result.now) (drop m c.as_slice-x.result.now) (slice_index c.args.groups.now a) (slice_index c.args.groups.now b))
           (sym back) c.loop-k.invariant.left);
     }

@@ -1,5 +1,5 @@
 use Rattle.std.proofs.Common.{map}
-use Rattle.clu_rules.specs.Lines.{rule_of}
+use Rattle.clu_rules.specs.Lines.{as_rule}
 use Rattle.clu_rules.specs.Puts.{RequiredBy, ForbiddenBy}
 use Rattle.clu_rules.proofs.PutLaws.{puts_next}
 use Rattle.clu_rules.proofs.PairLaws.{one_below}
@@ -11,6 +11,6 @@ put_rule-requires-clause-one c =
 
 pub loop-rule-preserved : goal.loop-rule-preserved
 loop-rule-preserved c = (
-  puts_next (RequiredBy (map rule_of c.args.rules.now)) c.args.rules.now c.loop-rule.rule-index c.rule-item.result c.args.required.now c.loop-rule.required c.put_rule.new.required c.loop-rule-test.true c.rule-item.is c.loop-rule.invariant.0 c.in_ok-put_rule.ensures.required,
-  puts_next (ForbiddenBy (map rule_of c.args.rules.now)) c.args.rules.now c.loop-rule.rule-index c.rule-item.result c.args.forbidden.now c.loop-rule.forbidden c.put_rule.new.forbidden c.loop-rule-test.true c.rule-item.is c.loop-rule.invariant.1 c.in_ok-put_rule.ensures.forbidden,
+  puts_next (RequiredBy (map as_rule c.args.rules.now)) c.args.rules.now c.loop-rule.rule-index c.rule-item.result c.args.required.now c.loop-rule.required c.put_rule.new.required c.loop-rule-test.true c.rule-item.is c.loop-rule.invariant.0 c.in_ok-put_rule.ensures.required,
+  puts_next (ForbiddenBy (map as_rule c.args.rules.now)) c.args.rules.now c.loop-rule.rule-index c.rule-item.result c.args.forbidden.now c.loop-rule.forbidden c.put_rule.new.forbidden c.loop-rule-test.true c.rule-item.is c.loop-rule.invariant.1 c.in_ok-put_rule.ensures.forbidden,
 )

@@ -1,6 +1,6 @@
 use Rattle.std.proofs.Common.{◌∙◌, ap, subst, sym, IfOk}
 use Rattle.clu_state.specs.State.{IsState, decided}
-use Rattle.clu_tree.specs.Nodes.{IsFit}
+use Rattle.clu_tree.specs.Nodes.{MayStand}
 use Rattle.clu_worked.proofs.Roots.{after}
 use Rattle.clu_worked.proofs.tree.child.Goals as goal
 
@@ -22,4 +22,4 @@ returns g c =
     c.in_ok-state.ensures
     ∙ ap (λ ds. record { pairs = c.args.pairs.now; start = c.args.start.now; members = c.args.members.now; decisions = ds }) c.deref.ensures.value
     ∙ sym (c.in_ok-path.ensures.state ∙ after _ _ _ c.args.tree.now c.in_ok-path.path.items c.requires.root) in
-    subst (λ s. IfOk c.fresh.result (λ fresh. IsFit s fresh)) (c.in_ok-decide.ensures ∙ ap (λ s. decided s c.args.last) built) c.fresh.ensures
+    subst (λ s. IfOk c.fresh.result (λ fresh. MayStand s fresh)) (c.in_ok-decide.ensures ∙ ap (λ s. decided s c.args.last) built) c.fresh.ensures

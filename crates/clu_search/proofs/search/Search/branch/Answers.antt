@@ -1,6 +1,6 @@
 use Rattle.std.proofs.Common.{sym, subst, ap, ◌∙◌}
 use Rattle.clu_state.specs.State.{State, IsState, decided}
-use Rattle.clu_tree.specs.Nodes.{Tree, IsOpen}
+use Rattle.clu_tree.specs.Nodes.{Tree, IsOpenLeaf}
 use Rattle.clu_search.specs.declared.search.Search.{Search}
 use Rattle.clu_search.proofs.Searching.{leaf_key, no_pair, open_leaf, settled_more, settled_split, with_nodes, with_states, with_fresh}
 use Rattle.clu_search.proofs.search.Search.branch.Goals as goal

@@ -3,7 +3,7 @@ use mir.Syntax.{w128}
 use Rattle.std.proofs.lemmas.Int.{ints}
 use Rattle.clu_partition.specs.Pairs.{Pairs}
 use Rattle.clu_partition.specs.PairSets.{Chosen}
-use Rattle.clu_state.specs.Rebuilt.{Agrees}
+use Rattle.clu_state.specs.Rebuilt.{TablesAgree}
 use Rattle.clu_state.specs.State.{State}
 use Rattle.clu_state.proofs.Joined.{fixed_small, agrees_same}
 use Rattle.clu_state.proofs.rebuilt.Rebuilt.copy_from.Goals as goal
@@ -21,8 +21,8 @@ invariant_of-self c =
     let s : State = record { pairs = mine.pairs.now; start = mine.start.now; members = mine.members.items; decisions = c.in_ok-decisions.decisions.items } in
     let group = c.copy_from_slice.new.self.items in
     let place = c.copy_from_slice-2.new.self.items in
-    subst (λ (w : Pairs). Agrees s group place w c.copy_from-2.new.self (to_z w128 (of_z w128 other.fixed))) (sym c.copy_from.ensures)
-    (subst (λ (a : Chosen). Agrees s group place other.weights a (to_z w128 (of_z w128 other.fixed))) (sym c.copy_from-2.ensures)
+    subst (λ (w : Pairs). TablesAgree s group place w c.copy_from-2.new.self (to_z w128 (of_z w128 other.fixed))) (sym c.copy_from.ensures)
+    (subst (λ (a : Chosen). TablesAgree s group place other.weights a (to_z w128 (of_z w128 other.fixed))) (sym c.copy_from-2.ensures)
     (agrees_same (record { pairs = other.pairs.now; start = other.start.now; members = other.members.items; decisions = other.decisions.items }) s other.group.items group other.place.items place other.weights other.apart other.fixed (to_z w128 (of_z w128 other.fixed)) c.other.invariant
     (λ i. record { pairs = pairs i; start = start i; members = members i; decisions = decisions i })
     (c.copy_from_slice.ensures.items ∙ c.deref-2.ensures.value) (c.copy_from_slice-2.ensures.items ∙ c.deref-3.ensures.value) fixed))

@@ -6,8 +6,8 @@ use Rattle.slab.specs.Slab.{Slab, slab_len}
 use Rattle.clu_state.specs.State.{State, IsState}
 use Rattle.clu_state.specs.declared.decision.Decision.{Decision}
 use Rattle.clu_tree.specs.declared.node.Node.{Node}
-use Rattle.clu_tree.specs.Nodes.{IsFit}
-use Rattle.clu_tree.specs.Queue.{entry}
+use Rattle.clu_tree.specs.Nodes.{MayStand}
+use Rattle.clu_tree.specs.Queue.{queue_entry}
 use Rattle.clu_tree.specs.Links.{leaf_node}
 use Rattle.clu_tree.proofs.Arena.{one_shown}
 use Rattle.clu_tree.proofs.RootLaws.{one_whole}
@@ -23,9 +23,9 @@ invariant_of-result c =
     let same : state c.args.members.now c.args.given.now ≡ state c.in_ok-members.members c.in_ok-given.given =
     ap (λ members. state members c.args.given.now) (sym c.in_ok-members.ensures) ∙ ap (state c.in_ok-members.members) (sym c.in_ok-given.ensures) in
     one_whole c.insert_reserved-first.new.self c.insert_reserved-first.result 0 _ _ c.args.root c.reserve.new.self.entries c.push.new.self.entries
-    c.insert_reserved-first.ensures.updates.changed len (subst IsState same c.requires.state) (subst (λ s. IsFit s c.args.root) same c.requires.fit)
+    c.insert_reserved-first.ensures.updates.changed len (subst IsState same c.requires.state) (subst (λ s. MayStand s c.args.root) same c.requires.fit)
     (c.reserve.ensures.same ∙ c.new-queue.ensures)
-    (subst (λ z. IsPermutation (entry z c.insert_reserved-first.result ∷ c.reserve.new.self.entries) c.push.new.self.entries)
+    (subst (λ z. IsPermutation (queue_entry z c.insert_reserved-first.result ∷ c.reserve.new.self.entries) c.push.new.self.entries)
     (to_z-of_z w128 c.bound_of-bound.result f ∙ c.bound_of-bound.ensures) c.push.ensures.entries)
 
 pub returns : goal.returns

@@ -1,7 +1,7 @@
 use Rattle.std.proofs.Common.{sym, subst}
 use Rattle.clu_state.specs.State.{IsFree, decided}
 use Rattle.clu_state.specs.declared.decision.Decision.TheVariants.{Together, Apart}
-use Rattle.clu_tree.specs.Nodes.{Tree, state_at, IsOpen, IsFit}
+use Rattle.clu_tree.specs.Nodes.{Tree, state_at, IsOpenLeaf, MayStand}
 use Rattle.slab.specs.Slab.{slab_len}
 use Rattle.clu_tree.proofs.Arena.{leaf_unsplit}
 use Rattle.clu_tree.proofs.Queued.{there_is}
@@ -10,7 +10,7 @@ use Rattle.clu_tree.proofs.tree.Tree.split.Goals as goal
 
 pub grow-requires-clause-key : goal.grow-requires-clause-key
 grow-requires-clause-key c =
-    let o = subst (λ (t : Tree). IsOpen t c.args.key) (sym c.self.view_is) c.requires.open in
+    let o = subst (λ (t : Tree). IsOpenLeaf t c.args.key) (sym c.self.view_is) c.requires.open in
     let w = leaf_unsplit (slab_len c.self.inside.nodes) c.self.inside.nodes c.self.inside.first c.args.key o.node o.leaf in
     there_is _ w.0 w.1
 
@@ -20,10 +20,10 @@ grow-requires-clause-known c = λ b k h. let w = c.self.invariant.queued.known b
 pub invariant_of-self : goal.invariant_of-self
 invariant_of-self c = split_whole c.grow.result c.self.inside.nodes c.grow.new.nodes c.self.inside.first _ _ c.args.key (c.args.u, c.args.v) c.args.together c.args.apart
     c.self.inside.queue.entries c.grow.new.queue.entries c.self.invariant
-    (subst (λ (t : Tree). IsOpen t c.args.key) (sym c.self.view_is) c.requires.open)
+    (subst (λ (t : Tree). IsOpenLeaf t c.args.key) (sym c.self.view_is) c.requires.open)
     (subst (λ (t : Tree). IsFree (state_at t c.args.key) c.args.u c.args.v) (sym c.self.view_is) c.requires.free)
-    (subst (λ (t : Tree). IsFit (decided (state_at t c.args.key) (Together c.args.u c.args.v)) c.args.together) (sym c.self.view_is) c.requires.together)
-    (subst (λ (t : Tree). IsFit (decided (state_at t c.args.key) (Apart c.args.u c.args.v)) c.args.apart) (sym c.self.view_is) c.requires.apart)
+    (subst (λ (t : Tree). MayStand (decided (state_at t c.args.key) (Together c.args.u c.args.v)) c.args.together) (sym c.self.view_is) c.requires.together)
+    (subst (λ (t : Tree). MayStand (decided (state_at t c.args.key) (Apart c.args.u c.args.v)) c.args.apart) (sym c.self.view_is) c.requires.apart)
     c.grow.ensures.ok c.grow.ensures.queued c.grow.ensures.err c.grow.ensures.err_queue
 
 pub returns-clause-ok : goal.returns-clause-ok
