@@ -1,6 +1,6 @@
 //! The pair of groups on which a node would be split: of the free pairs the heaviest one, so that both decisions change the bound
 //! most. One walk over the pairs of groups finds it, and no list of them is made.
-ghost use Rattle.std.specs.Prelude.{◌≡◌, ◌≢◌, ℕ, [], ◌∷◌, Contains, IfOk, IfSome, Some};
+ghost use Rattle.std.specs.Prelude.{◌≡◌, ◌≢◌, [], ◌∷◌, Contains, IfOk, IfSome, Some};
 ghost use Rattle.clu_state.specs.State.{State, AreLater, leader, free_pairs, free_with};
 ghost use Rattle.clu_node.specs.Node.{HasPair, IsHeaviest, size_of};
 ghost use Rattle.clu_node.specs.Heavier.{IsSized, heavier, heaviest_of};

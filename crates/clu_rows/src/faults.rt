@@ -1,8 +1,8 @@
 //! The faults of a leaf's rows: each names members of different groups, and the rows' worth together stays below a limit.
 //! The limit keeps each sum of the bound in 128 bits, so that nothing has to be tested while it is taken.
 
-ghost use Rattle.std.specs.Prelude.{◌≡◌, ◌≢◌, ◌↔◌, ◌<◌, ◌≤◌, ◌+◌, ◌*◌, ◌^◌, ◌++◌, ℕ, List, All, Contains, IsTrue, IfSome, IsNone, length};
-ghost use Rattle.clu_state.specs.State.{IsState, leader};
+ghost use Rattle.std.specs.Prelude.{◌≡◌, ◌≢◌, ◌↔◌, ◌<◌, ◌≤◌, ◌+◌, ◌*◌, ◌^◌, ◌++◌, All, Contains, IsTrue, IfSome, IsNone, length};
+ghost use Rattle.clu_state.specs.State.{leader};
 ghost use Rattle.clu_partition.specs.Groups.{NamesOnce};
 ghost use Rattle.clu_rows.specs.Faults.{IsRow, AreRows, IsFirstBadRow};
 

@@ -14,11 +14,10 @@ use Rattle.clu_state.specs.declared.decision.Decision.TheVariants.{Together}
 use Rattle.clu_state.proofs.Bounds.{fixed_size}
 use Rattle.clu_state.proofs.Joined.{decided_state, leader_together, new_fixed, two_of}
 use Rattle.std.proofs.Common.{◌==◌}
-use Rattle.clu_partition.specs.Groups.{leaders}
 use Rattle.clu_state.proofs.Bridge.{state_are_groups}
 use Rattle.clu_starts.specs.Joined.{AreHints, Gains, IsFurther, NoneGains}
-use Rattle.std.proofs.Common.{◌+◌, get_or}
-use Rattle.std.proofs.lemmas.List.{get_or_default}
+use Rattle.std.proofs.Common.{◌+◌, get_or, map}
+use Rattle.std.proofs.lemmas.List.{get_or_default, length-map}
 use Rattle.std.proofs.lemmas.List.Elements.{All-filter}
 use Rattle.clu_partition.proofs.ListLaws.{few_rising}
 use Rattle.clu_partition.proofs.Regroup.{leaders_rising, each_filter}
@@ -102,11 +101,11 @@ leaders_few s groups i e =
 pub hints_decided : (s t : State) (d : Decision) (groups partner : List ℕ) → t ≡ decided s d → AreHints s groups partner → AreHints t groups partner
 hints_decided s t d groups partner e h = subst (λ r. AreHints r groups partner) (sym e) (record { members = h.members; few = h.few; size = h.size; within = h.within })
 
-pub hints_begun : (s : State) (groups leaders partner : List ℕ) → groups ≡ leaders → All (Contains s.members) leaders → length leaders ≤ 1000 →
+pub hints_begun : (s : State) (groups partner : List ℕ) → IsState s → groups ≡ group_leaders s →
     length partner ≡ length groups → All (λ j. j < length groups) partner → AreHints s groups partner
-hints_begun s groups leaders partner e m f size within = record {
-  members = subst (All (Contains s.members)) (sym e) m;
-  few = let k = ap length e in omega (arith, f, k);
+hints_begun s groups partner i e size within = record {
+  members = leaders_members s groups e;
+  few = leaders_few s groups i e;
   size = size;
   within = within;
 }
@@ -116,3 +115,9 @@ members_few s i =
     let h = few_rising s.members s.pairs.n (rising_from_index s.members i.members.rising) (below_all s i) in
     let m = i.small in
     omega (arith, h, m)
+
+pub labels_few : (s : State) (labels : List ℕ) → IsState s → labels ≡ map (leader s) s.members → length labels ≤ 1000
+labels_few s labels i e =
+    let few = members_few s i in
+    let k = ap length e ∙ length-map s.members (leader s) in
+    omega (arith, few, k)

@@ -8,20 +8,21 @@ ghost use Rattle.clu_partition.specs.Partition.{SameBlocks};
 ghost use Rattle.clu_state.specs.declared.decision.Decision.TheVariants.{Together};
 ghost use Rattle.clu_starts.specs.Joined.{AreHints, Gains, IsFurther, NoneGains};
 
-use clu_partition::{Partition, Seq, Vertex};
+use clu_partition::{Partition, Vertex};
 use clu_state::{Decision, Situation};
 use std::alloc::{AllocError, Global};
 
 /// A partition of the members, one label for each: that into the groups once `join_all` has put them
 /// together, which it does on the state itself. Fails for want of memory alone; the state may then
 /// have some of the decisions.
+#[tactic(auto, using(crate::proofs::JoinedLaws::labels_few))]
 pub fn greedy<S: Situation>(alloc: Global, state: &mut S) -> Result<Partition, AllocError>
     ensures further { IfOk result (λ _. IsFurther (S.state state.old) (S.state state.new)) }
     ensures joined { IfOk result (λ _. NoneGains (S.state state.new)) }
     ensures blocks { IfOk result (λ p. SameBlocks (map (leader (S.state state.new)) (S.state state.new).members) p) }
 {
     join_all(alloc, state)?;
-    let labels = labels_of(alloc, state)?;
+    let labels = state.group_labels(alloc)?;
     Partition::from_labels(alloc, &labels)
 }
 
@@ -32,7 +33,7 @@ pub fn join_all<S: Situation>(alloc: Global, state: &mut S) -> Result<(), AllocE
     ensures further { OnOk result (IsFurther (S.state state.old) (S.state state.new)) }
     ensures joined { OnOk result (NoneGains (S.state state.new)) }
 {
-    let leaders = groups_of(alloc, state)?;
+    let leaders = state.leaders(alloc)?;
     let groups = leaders.as_slice();
     let mut partner = partners(alloc, state, groups)?;
     loop {
@@ -265,26 +266,4 @@ fn leads<S: Situation>(state: &S, groups: &[Vertex], i: u32) -> bool
 {
     let u = groups[i as usize];
     state.group_of(u) == u
-}
-
-/// The least vertices of the groups.
-fn groups_of<S: Situation>(alloc: Global, state: &S) -> Result<Seq<Vertex>, AllocError>
-    ensures valid { IfOk result (λ _. IsState (S.state state.now)) }
-    ensures members { IfOk result (λ groups. All (Contains (S.state state.now).members) groups) }
-    ensures few { IfOk result (λ groups. length groups ≤ 1000) }
-{
-    state.leaders(alloc)
-}
-
-/// The least vertex of each member's group.
-fn labels_of<S: Situation>(alloc: Global, state: &S) -> Result<Vec<u32>, AllocError>
-    ensures groups { IfOk result (λ labels. labels.items ≡ map (leader (S.state state.now)) (S.state state.now).members) }
-    ensures few { IfOk result (λ labels. length labels.items ≤ 1000) }
-{
-    let members = state.members();
-    let mut labels = Vec::with_capacity(alloc, members.len())?;
-    for v in members {
-        labels.push(state.group_of(*v).0)?;
-    }
-    Ok(labels)
 }

@@ -29,7 +29,7 @@ pub fn polish(
     ensures settled { IfOk result (λ q. IsSettled pairs.now start.now (slice_index q)) }
     ensures no_less { IfOk result (λ q. whole_value pairs.now (slice_index p) ≤ℤ whole_value pairs.now (slice_index q)) }
 {
-    // for the prover: the rules are closed
+    // For the prover: the rules are closed.
     let _n = start.n();
     let keys = group_keys(alloc, start)?;
     let mut now = p;
