@@ -7,7 +7,7 @@ use Rattle.clu_partition.specs.Pairs.{Pairs}
 use Rattle.clu_rows.specs.Packing.{Room}
 use Rattle.clu_partition.specs.Partition.{below}
 use Rattle.clu_objective.specs.Problem.{Posed, IsPosed}
-use Rattle.clu_state.specs.State.{State, IsState}
+use Rattle.clu_state.specs.State.{State, CanDecideAll, IsFree, IsState}
 use Rattle.clu_state.specs.declared.decision.Decision.{Decision}
 use Rattle.clu_node.specs.declared.bound.NodeBound.{NodeBound}
 use Rattle.clu_node.specs.declared.bound.How.TheVariants.{Closed}
@@ -19,7 +19,7 @@ use Rattle.clu_cert.specs.declared.certificate.Item.TheVariants.{Reduce, Leaf}
 use Rattle.clu_reduce.specs.declared.step.Step.{Step}
 use Rattle.clu_cert.proofs.States.{IsTask, whole_is_state}
 use Rattle.clu_tree.specs.Items.{branch_items}
-use Rattle.clu_tree.specs.Nodes.{Tree, Shown, HasKey, LeafAt, IsOpenLeaf, items_of, new_leaf}
+use Rattle.clu_tree.specs.Nodes.{Tree, Shown, HasKey, LeafAt, IsOpenLeaf, items_of, new_leaf, state_at}
 use Rattle.clu_tree.specs.declared.node.Fresh.{Fresh}
 use Rattle.clu_tree.proofs.KeyLaws.{unsplit_once}
 use Rattle.clu_search.specs.Incumbent.{IsIncumbent}
@@ -107,6 +107,15 @@ with_states s states i are = record {
   known = i.known;
   settled = i.settled;
 }
+
+-- a leaf's path can be taken from the state without decisions, and its free pairs are free there
+pub along : (s : Search) (key : ℕ) (path : List Decision) → IsSearch s → IsState (state_at s.tree key) → state_at s.tree key ≡ record s.tree.root { decisions = path } → CanDecideAll s.states.root path
+along s key path i state e = subst (λ r. CanDecideAll r path) (sym i.states.root)
+    (subst (λ (r : State). CanDecideAll (record r { decisions = [] }) path) i.root (subst IsState e state).made)
+
+pub free_along : (s : Search) (key : ℕ) (path : List Decision) (u v : ℕ) → IsSearch s → IsFree (state_at s.tree key) u v → state_at s.tree key ≡ record s.tree.root { decisions = path } →
+    IsFree (record s.states.root { decisions = path }) u v
+free_along s key path u v i free e = subst (λ (r : State). IsFree (record r { decisions = path }) u v) (i.root ∙ sym i.states.root) (subst (λ t. IsFree t u v) e free)
 
 -- the same search with a better partition
 pub with_best : (s : Search) (best : Incumbent) (scratch : Room) → IsSearch s → s.incumbent.value ≤ℤ best.value → s.problem.now.pairs.n ≤ scratch.n →

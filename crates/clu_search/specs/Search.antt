@@ -24,11 +24,11 @@ abbrev pub AreRightlyClosed : ℤ → List Shown → Type 0
 AreRightlyClosed best nodes = (key : ℕ) (node : NodeBound) → LeafAt key node nodes → IsRightlyClosed best node
 
 -- three states of one problem: the first has no decisions, the others may have some
-pub record AreStates (root : State) (states : States) : Type 0 where
-  pub undecided : root.decisions ≡ []
-  pub root : states.root ≡ root
-  pub together : states.together ≡ record root { decisions = states.together.decisions }
-  pub apart : states.apart ≡ record root { decisions = states.apart.decisions }
+pub record AreStates (first : State) (states : States) : Type 0 where
+  pub undecided : first.decisions ≡ []
+  pub root : states.root ≡ first
+  pub together : states.together ≡ record first { decisions = states.together.decisions }
+  pub apart : states.apart ≡ record first { decisions = states.apart.decisions }
 
 -- the rules are for the problem, the tree is that of all its vertices, and its bounds were found beside partitions no better
 -- than the best one

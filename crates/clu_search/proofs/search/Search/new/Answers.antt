@@ -10,8 +10,8 @@ use Rattle.clu_search.specs.declared.search.Search.{Search}
 use Rattle.clu_search.proofs.Searching.{first_search, none_made, root_of, state_for}
 use Rattle.clu_search.proofs.search.Search.new.Goals as goal
 
-pub new-states-requires-clause-valid : goal.new-states-requires-clause-valid
-new-states-requires-clause-valid c = state_for c.args.problem.now _ c.args.start.now c.n.result c.problem.view_is c.problem.invariant
+pub new-requires-2-clause-valid : goal.new-requires-2-clause-valid
+new-requires-2-clause-valid c = state_for c.args.problem.now _ c.args.start.now c.n.result c.problem.view_is c.problem.invariant
     c.in_ok-incumbent.ensures.closed c.n.ensures.value c.n.ensures.small c.requires
 
 pub returns-clause-search : goal.returns-clause-search
