@@ -1,4 +1,6 @@
 pub mod PutLaws
+pub mod AttributeLaws
+pub mod DoneLaws
 pub mod PairLaws
 pub mod ReadLaws
 pub mod BelowLaws

@@ -1,7 +1,6 @@
 -- Laws of the pairs that rules give.
-use Rattle.std.proofs.Common.{◌≡◌, inl, inr, ⊎_elim, ℕ, ◌+◌, ◌<◌, ◌≤◌, List, [], ◌∷◌, ◌++◌, length, map, get_or, take, Contains, All, Bool, true, false, sym, ap, ◌∙◌, subst, arith}
+use Rattle.std.proofs.Common.{◌≡◌, inl, ⊎_elim, ℕ, ◌<◌, ◌≤◌, List, [], ◌∷◌, ◌++◌, length, map, get_or, Contains, All, Bool, true, false, sym, ◌∙◌, subst, arith}
 use Rattle.std.proofs.lemmas.Bool.{true≢false}
-use Rattle.std.proofs.lemmas.List.{take_more, map-append}
 use Rattle.std.proofs.lemmas.List.Elements.{All-contains, Contains-append_left, Contains-push, Contains-push_cases}
 use Rattle.clu_partition.specs.PairSets.{Chosen, has, IsListed}
 use Rattle.clu_partition.proofs.GridLaws.{value_sym}
@@ -67,18 +66,11 @@ of_key false rules key values old new m p = puts_as (λ u v. Any (ClashIn false 
 pub values_below : (n : ℕ) (rules : List Rule) (key : List ℕ) (values : List Value) → All (IsBelow n) rules → AreValues rules key values → All (λ a. a.vertex < n) values
 values_below n rules key values all m = all_from (λ a. a.vertex < n) values (λ a c. All-contains (IsBelow n) rules (valued a.vertex key a.value.now) all (m.only a c))
 
--- one rule more read for values
-pub values_next : (rules : List Found) (i : ℕ) (rule : Found) (key : List ℕ) (values : List Value) → i < length rules → rule ≡ get_or rules i rule
-    → AreValues (map as_rule (take i rules) ++ as_rule rule ∷ []) key values → AreValues (map as_rule (take (i + 1) rules)) key values
-values_next rules i rule key values l there m = subst (λ (rs : List Rule). AreValues rs key values)
-    (sym (ap (map as_rule) (take_more rules i rule l ∙ ap (λ (r : Found). take i rules ++ r ∷ []) (sym there)) ∙ map-append as_rule (take i rules) (rule ∷ []))) m
-
 -- ---- the list of all pairs
-pub list_of : (n : ℕ) (rules : List Rule) (found : List Found) (S : List Rule → Rule → ℕ → ℕ → Type 0) (empty set : Chosen) (list : List (ℕ × ℕ)) → rules ≡ map as_rule found
-    → empty.n ≡ n → ((u v : ℕ) → has empty u v ≡ false) → All (IsBelow n) rules → ((rule : Rule) (u v : ℕ) → Contains rules rule → S rules rule u v → (u < n) × (v < n))
-    → Puts (Any (λ rule. S rules (as_rule rule)) found) empty set → IsListed set list set.n set.n
-    → IsListOf n (λ u v. (rule : Rule) × Contains rules rule × S rules rule u v) list
-list_of n rules found S empty set list e size none all within p m = record {
+pub list_of : (n : ℕ) (rules : List Rule) (S : Rule → ℕ → ℕ → Type 0) (empty set : Chosen) (list : List (ℕ × ℕ))
+    → empty.n ≡ n → ((u v : ℕ) → has empty u v ≡ false) → ((rule : Rule) (u v : ℕ) → Contains rules rule → S rule u v → (u < n) × (v < n))
+    → Puts (Any S rules) empty set → IsListed set list set.n set.n → IsListOf n (Any S rules) list
+list_of n rules S empty set list size none within p m = record {
   listed = record { rising = m.rising; ordered = subst (λ (k : ℕ). All (λ q. (q.0 ≤ q.1) × (q.1 < k)) list) (p.size ∙ size) m.ordered };
   only = λ u v c.
       let o = All-contains (λ q. (q.0 ≤ q.1) × (q.1 < set.n)) list (u, v) m.ordered c in
@@ -86,25 +78,17 @@ list_of n rules found S empty set list e size none all within p m = record {
       let b = o.1 in
       let s = p.size in
       let h = All-contains (λ q. has set q.0 q.1 ≡ true) list (u, v) m.only c in
-      ⊎_elim (λ f. absurd (true≢false (sym f ∙ none u v))) (λ w. ⊎_elim (λ x. inl (from u v x)) (λ x. inr (from v u x)) w) (p.only u v (omega (arith, a, b, s)) (omega (arith, b, s)) h);
+      ⊎_elim (λ f. absurd (true≢false (sym f ∙ none u v))) (λ w. w) (p.only u v (omega (arith, a, b, s)) (omega (arith, b, s)) h);
   each = λ u v o w.
       let s = p.size in
       ⊎_elim
       (λ x. let b = within x.0 u v x.1 x.2 in let i = b.1 in let j = b.0 in
-      m.each u v o (omega (arith, s, size, i)) (p.each u v (back_to u v x)) (inl (omega (arith, s, size, j))))
+      m.each u v o (omega (arith, s, size, i)) (p.each u v x) (inl (omega (arith, s, size, j))))
       (λ x. let b = within x.0 v u x.1 x.2 in let i = b.0 in let j = b.1 in
-      m.each u v o (omega (arith, s, size, i)) (turned u v (p.each v u (back_to v u x))) (inl (omega (arith, s, size, j))))
+      m.each u v o (omega (arith, s, size, i)) (turned u v (p.each v u x)) (inl (omega (arith, s, size, j))))
       w;
 }
   where
-    from : (u v : ℕ) → Any (λ rule. S rules (as_rule rule)) found u v → (rule : Rule) × Contains rules rule × S rules rule u v
-    from u v w = (as_rule w.0, subst (λ (rs : List Rule). Contains rs (as_rule w.0)) (sym e) (map_to as_rule found w.0 w.1), w.2)
-
-    back_to : (u v : ℕ) → ((rule : Rule) × Contains rules rule × S rules rule u v) → Any (λ rule. S rules (as_rule rule)) found u v
-    back_to u v w =
-        let x = map_from as_rule found w.0 (subst (λ (rs : List Rule). Contains rs w.0) e w.1) in
-        (x.0, x.1, subst (λ (r : Rule). S rules r u v) (sym x.2) w.2)
-
     turned : (u v : ℕ) → has set v u ≡ true → has set u v ≡ true
     turned u v h = value_sym set false u v ∙ h
 
@@ -131,6 +115,16 @@ parts_below n rules all (tied a b) u v c t = absurd t
 parts_below n rules all (valued w key value) u v c t = absurd t
 parts_below n rules all (shared key) u v c t = absurd t
 
-pub one_below : (n m : ℕ) (rules : List Found) (i : ℕ) (rule : Found) → All (IsBelow n) (map as_rule rules) → i < length rules → rule ≡ get_or rules i rule → m ≡ n → IsBelow m (as_rule rule)
-one_below n m rules i rule all l there e = subst (λ (k : ℕ). IsBelow k (as_rule rule)) (sym e)
-    (All-contains (IsBelow n) (map as_rule rules) (as_rule rule) all (map_to as_rule rules rule (i, l, sym there)))
+pub one_below : (n m : ℕ) (rules : List Rule) (list : List Found) (i : ℕ) (rule : Found) → All (IsBelow n) rules → map as_rule list ≡ rules → i < length list → rule ≡ get_or list i rule → m ≡ n
+    → IsBelow m (as_rule rule)
+one_below n m rules list i rule all same l there e = subst (λ (k : ℕ). IsBelow k (as_rule rule)) (sym e)
+    (All-contains (IsBelow n) rules (as_rule rule) all (subst (λ (rs : List Rule). Contains rs (as_rule rule)) same (map_to as_rule list rule (i, l, sym there))))
+
+-- what the rules of a list put is what the rules that it stands for put
+pub puts_read : (S : Rule → ℕ → ℕ → Type 0) (rules : List Rule) (list : List Found) (old new : Chosen) → map as_rule list ≡ rules
+    → Puts (Any (λ rule. S (as_rule rule)) list) old new → Puts (Any S rules) old new
+puts_read S rules list old new same p = puts_as (Any (λ rule. S (as_rule rule)) list) (Any S rules) old new
+    (λ u v w. (as_rule w.0, subst (λ (rs : List Rule). Contains rs (as_rule w.0)) same (map_to as_rule list w.0 w.1), w.2))
+    (λ u v w. let x = map_from as_rule list w.0 (subst (λ (rs : List Rule). Contains rs w.0) (sym same) w.1) in
+    (x.0, x.1, subst (λ (r : Rule). S r u v) (sym x.2) w.2))
+    p

@@ -7,12 +7,14 @@
 //! `specs/Ties.antt` of `clu_partition` for the groups.
 #![tactic(auto)]
 
+mod attributes;
 mod closing;
 mod error;
 mod form;
 mod pairs;
 mod reader;
 mod rule;
+mod rule_set;
 mod rules;
 mod values;
 

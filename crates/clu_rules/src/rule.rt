@@ -1,7 +1,7 @@
 //! What a line says of vertices, once its names are looked up. A rule is a line's form with vertices
 //! in place of names, so what it says depends on no other line.
 
-ghost use Rattle.std.specs.Prelude.{MatchOption};
+ghost use Rattle.std.specs.Prelude.{◌≡◌, MatchOption};
 ghost use Rattle.clu_rules.specs.Lines.{as_form, as_rule, Says, HasUnknown};
 
 use crate::form::Form;
@@ -41,5 +41,19 @@ pub(crate) fn rule_of<'a, N: Names>(names: &N, form: Form<'a>) -> Option<Rule<'a
         Form::Share(key) => Some(Rule::Share(key)),
         Form::Differ(key) => Some(Rule::Differ(key)),
         Form::Same(key) => Some(Rule::Same(key)),
+    }
+}
+
+/// The same rule once more.
+pub(crate) fn copy_of<'a>(rule: &Rule<'a>) -> Rule<'a>
+    ensures { as_rule result ≡ as_rule rule.now }
+{
+    match rule {
+        Rule::Together(u, v) => Rule::Together(*u, *v),
+        Rule::Apart(u, v) => Rule::Apart(*u, *v),
+        Rule::Attribute(v, key, value) => Rule::Attribute(*v, *key, *value),
+        Rule::Share(key) => Rule::Share(*key),
+        Rule::Differ(key) => Rule::Differ(*key),
+        Rule::Same(key) => Rule::Same(*key),
     }
 }

@@ -18,9 +18,8 @@ use std::marker::Model;
 /// required), `differ KEY` (those are forbidden) and `same KEY` (vertices with different values are
 /// forbidden, and one without the key is free). Attribute lines count wherever they stand. Lines
 /// without fields and those that begin with `#` are skipped. An error names the first line that is
-/// refused. The time is linear in the bytes and in n * n, but that each attribute line goes over the
-/// rules before it, and each `share`, `differ` and `same` over all rules and over the pairs of the
-/// key's vertices: quadratic in the lines where these are many.
+/// refused. The time is linear in the bytes and in n * n, but that each two values under a key are
+/// compared, once for each of the words `share`, `differ` and `same` that the key stands behind.
 pub fn read_rules<N: Names>(alloc: Global, bytes: &[u8], names: &N) -> Result<Rules, RuleError>
     ensures n { IfOk result (λ r. r.n ≡ length (N.names names.now)) }
     ensures rules { IfOk result (λ r. AreRules r.n (N.is_named names.now) bytes.now r.required r.forbidden) }
@@ -38,7 +37,7 @@ pub fn read_rules<N: Names>(alloc: Global, bytes: &[u8], names: &N) -> Result<Ru
         Err(error) => return Err(error),
     };
     let n = names.count();
-    match pairs_of(alloc, n, rules.as_slice()) {
+    match pairs_of(alloc, n, &rules) {
         Ok(lists) => Ok(lists),
         Err(_) => Err(RuleError::Memory),
     }

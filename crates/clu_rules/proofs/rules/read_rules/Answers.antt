@@ -1,10 +1,8 @@
-use Rattle.std.proofs.Common.{inl, inr, ⊎_elim, Err, ℕ, List, All, length, map, ap, sym, subst}
+use Rattle.std.proofs.Common.{inl, inr, ⊎_elim, Err, ℕ, All, length, ap, sym, subst}
 use Rattle.std.specs.List.{enumerate_from}
 use Rattle.clu_text.specs.Lines.{lines_of}
-use Rattle.clu_rules.specs.Lines.{as_rule}
 use Rattle.clu_rules.specs.Puts.{IsBelow}
 use Rattle.clu_rules.specs.Rules.{IsListOf, Requires, Forbids}
-use Rattle.clu_rules.specs.declared.rule.Rule.{Rule as Found}
 use Rattle.clu_rules.proofs.BelowLaws.{rules_below}
 use Rattle.clu_rules.proofs.Excluded.{read_faultless, refused_once, first_fault}
 use Rattle.clu_rules.proofs.OneReading.{one_reading}
@@ -12,9 +10,8 @@ use Rattle.clu_rules.proofs.rules.read_rules.Goals as goal
 
 pub pairs_of-requires-clause-below : goal.pairs_of-requires-clause-below
 pairs_of-requires-clause-below g c =
-    subst (λ (rs : List Found). All (IsBelow c.count-n.result) (map as_rule rs)) (sym c.as_slice.ensures)
-    (subst (λ (n : ℕ). All (IsBelow n) (map as_rule c.in-Ok.rules)) (sym c.count-n.ensures.count)
-    (rules_below (length (g.N.Names.names c.args.names.now)) (g.N.Names.is_named c.args.names.now) (g.met.N.Names.within c.args.names.now) (enumerate_from 1 (lines_of c.args.bytes.now)) (map as_rule c.in-Ok.rules) c.in-Ok.ensures.ok))
+    subst (λ (n : ℕ). All (IsBelow n) c.in-Ok.rules) (sym c.count-n.ensures.count)
+    (rules_below (length (g.N.Names.names c.args.names.now)) (g.N.Names.is_named c.args.names.now) (g.met.N.Names.within c.args.names.now) (enumerate_from 1 (lines_of c.args.bytes.now)) c.in-Ok.rules c.in-Ok.ensures.ok)
 
 pub returns-in-Err-clause-first : goal.returns-in-Err-clause-first
 returns-in-Err-clause-first g c = λ e f. ⊎_elim (λ h. inl (ap Err h)) (λ h. inr (ap Err h))
@@ -26,17 +23,15 @@ returns-in-Err-clause-only g c = λ d required forbidden m.
 
 pub returns-in-Ok-pairs_of-clause-first : goal.returns-in-Ok-pairs_of-clause-first
 returns-in-Ok-pairs_of-clause-first g c = λ e f. absurd
-    (read_faultless (g.N.Names.is_named c.args.names.now) (g.met.N.Names.one c.args.names.now) c.args.bytes.now (map as_rule c.in-Ok.rules) e c.in-Ok.ensures.ok f)
+    (read_faultless (g.N.Names.is_named c.args.names.now) (g.met.N.Names.one c.args.names.now) c.args.bytes.now c.in-Ok.rules e c.in-Ok.ensures.ok f)
 
 pub returns-in-Ok-pairs_of-clause-one : goal.returns-in-Ok-pairs_of-clause-one
 returns-in-Ok-pairs_of-clause-one g c = λ required forbidden m.
     one_reading (g.N.Names.is_named c.args.names.now) (g.met.N.Names.one c.args.names.now) c.in-Ok-pairs_of.lists.n c.args.bytes.now c.in-Ok-pairs_of.lists.required c.in-Ok-pairs_of.lists.forbidden required forbidden
     (record {
-      rules = map as_rule c.in-Ok.rules;
+      rules = c.in-Ok.rules;
       reads = c.in-Ok.ensures.ok;
-      required_are = subst (λ (n : ℕ). IsListOf n (Requires (map as_rule c.in-Ok.rules)) c.in-Ok-pairs_of.lists.required) (sym c.in-Ok-pairs_of.ensures.n)
-          (subst (λ (rs : List Found). IsListOf c.count-n.result (Requires (map as_rule rs)) c.in-Ok-pairs_of.lists.required) c.as_slice.ensures c.in-Ok-pairs_of.ensures.required);
-      forbidden_are = subst (λ (n : ℕ). IsListOf n (Forbids (map as_rule c.in-Ok.rules)) c.in-Ok-pairs_of.lists.forbidden) (sym c.in-Ok-pairs_of.ensures.n)
-          (subst (λ (rs : List Found). IsListOf c.count-n.result (Forbids (map as_rule rs)) c.in-Ok-pairs_of.lists.forbidden) c.as_slice.ensures c.in-Ok-pairs_of.ensures.forbidden);
+      required_are = subst (λ (n : ℕ). IsListOf n (Requires c.in-Ok.rules) c.in-Ok-pairs_of.lists.required) (sym c.in-Ok-pairs_of.ensures.n) c.in-Ok-pairs_of.ensures.required;
+      forbidden_are = subst (λ (n : ℕ). IsListOf n (Forbids c.in-Ok.rules) c.in-Ok-pairs_of.lists.forbidden) (sym c.in-Ok-pairs_of.ensures.n) c.in-Ok-pairs_of.ensures.forbidden;
     })
     m
