@@ -1,6 +1,6 @@
 -- How a command ends, from what its steps tell.
 use Rattle.std.proofs.Common.{◌≡◌, ℕ, ◌≤◌, List, length, refl, sym, ◌∙◌, ap, subst, arith, inl, inr, Option, Some, None, Bool, Ok, Err}
-use Rattle.std.specs.Prelude.{◌⊎◌, if◌then◌else◌, Result, IsErrAnd}
+use Rattle.std.specs.Prelude.{◌⊎◌, if◌then◌else◌, Result, IsErrAnd, IsErrOf}
 use Rattle.clu_outside.specs.Counts.{last_count}
 use Rattle.clu_outside.specs.Folder.{Told, after_load, Holds, Lacks, IsStored, IsStoredPartly, CallsWithin, stores_of}
 use Rattle.clu_outside.specs.Sink.{TakesSome, with_bytes}
@@ -16,6 +16,10 @@ use Rattle.clu_cli.specs.declared.instance.Instance.{Instance}
 use Rattle.clu_cli.specs.declared.refusal.Refusal.{Refusal}
 use Rattle.clu_cli.specs.declared.stop.Stop.{Stop}
 use Rattle.clu_cli.specs.declared.stop.Stop.TheVariants.{BadText, Rejected, Refused, Words, ReadFault, WriteFault, Memory, TooLong, NoFile}
+
+-- a call that gave a value has no error
+pub no_error : {T E : Type 0} (x : T) (error : E) → IsErrOf (Ok x) error → ⊥
+no_error x error e = cc
 
 -- ---- over one load
 lacks_from : (old : Option Told) (file name : List ℕ) → Lacks (after_load file old) name → Lacks old name
