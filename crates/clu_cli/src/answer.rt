@@ -137,6 +137,3 @@ fn network_text(
     prove!(network.n() <= 1_000);
     report_text(alloc, facts, partition, network)
 }
-
-#[cfg(test)]
-mod tests;

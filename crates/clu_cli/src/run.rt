@@ -320,6 +320,3 @@ pub fn run<F: Folder, O: Sink, E: Sink>(
     let end = work(alloc, words, folder, out);
     finish(alloc, err, end)
 }
-
-#[cfg(test)]
-mod tests;

@@ -1,5 +1,5 @@
-//! Worked values: what the crates of states, rows, reductions, starts, cuts, nodes, certificates,
-//! trees, searches and checks answer where a person has worked out the answer by hand.
+//! Worked values: what the crates of states, rows, reductions, starts, cuts, nodes, certificates, trees, searches,
+//! checks and commands answer where a person has worked out the answer by hand.
 //!
 //! They stand on public names alone, in a crate of their own: nothing above waits for them, and a
 //! crate whose tests stand here is proved once.
@@ -9,6 +9,8 @@
 mod cert;
 #[cfg(test)]
 mod check;
+#[cfg(test)]
+mod commands;
 #[cfg(test)]
 mod cuts;
 #[cfg(test)]

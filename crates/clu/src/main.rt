@@ -1,25 +1,8 @@
-//! `clu solve FILE` and `clu check FILE CERTIFICATE`: cluster editing, correlation clustering and modularity with
-//! a proved answer, and with evidence that is checked apart.
-//!
-//! `run` is the program: its contract says what the printed report, the certificate and each exit
-//! status mean for the bytes of the files. The headline stands in `specs/Headline.antt`; `main` only hands `run`
-//! the words, the folder and the streams of the system.
+//! `clu solve FILE` and `clu check FILE CERTIFICATE`, over the system's words, files and streams. All that they do is `run` of
+//! `clu_cli`; where the words can't be had, nothing is loaded.
 #![tactic(auto)]
 
-mod answer;
-mod checked;
-mod form;
-mod instance;
-mod lines;
-mod options;
-mod refusal;
-mod report;
-mod run;
-mod stop;
-mod words;
-
-use crate::run::{run, tell};
-use crate::stop::Stop;
+use clu_cli::{Stop, run, tell};
 use clu_outside::{RealFolder, RealSink};
 use std::io::ErrorKind;
 use std::process::ExitCode;

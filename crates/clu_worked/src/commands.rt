@@ -1,8 +1,9 @@
 //! Whole runs over a folder and sinks in memory: each status with its cause, what is printed and stored byte for byte,
 //! which files were loaded, and what faults leave.
 
-use super::*;
+use clu_cli::run;
 use clu_outside::{MemoryFolder, MemorySink};
+use std::alloc::Global;
 use std::process::Abort;
 use std::test::Fail;
 
@@ -14,6 +15,9 @@ const PATH_GAP_REPORT: &str =
 
 const TRIANGLE_REPORT: &str =
     "objective edits\nvertices 3\nvalue 0\nbound 0\nscale 1\nverdict optimal\nbranchings 2\nblocks 1\nblock 1 2 3\n";
+
+const NONE_REPORT: &str =
+    "objective edits\nvertices 0\nvalue 0\nbound 0\nscale 1\nverdict optimal\nbranchings 0\nblocks 0\n";
 
 const ALONE_REPORT: &str =
     "objective edits\nvertices 1\nvalue 0\nbound 0\nscale 1\nverdict optimal\nbranchings 0\nblocks 1\nblock 1\n";
@@ -40,8 +44,17 @@ const ACCEPTED_LOW: &str =
 const STAR_CERT: &str =
     "clucert 1\nobjective edits\nvertices 4\nvalue 3\nbound 1\nblocks 1 2 3 4\nsteps 0\nparts 1\npart 1 2 3 4\nitems 1\nleaf 1 1\nrow 1 1 / 2 3\nend\n";
 
+/// The certificate of the path after one branching: with the pair together the other edge is cut, and apart as well.
+const PATH_CERT: &str =
+    "clucert 1\nobjective edits\nvertices 3\nvalue 1\nbound 1\nblocks 1 1 2\nsteps 0\nparts 1\npart 1 2 3\nitems 3\nbranch 1 2\nleaf 1 0\nleaf 1 0\nend\n";
+
+/// The certificate of a graph without vertices.
+const NONE_CERT: &str =
+    "clucert 1\nobjective edits\nvertices 0\nvalue 0\nbound 0\nblocks\nsteps 0\nparts 0\nend\n";
+
 /// The files of each case: graphs, the star's certificate, and altered copies of it.
-const FILES: [(&str, &str); 18] = [
+const FILES: [(&str, &str); 19] = [
+    ("none", "p cep 0 0\n"),
     ("path", "p cep 3 2\n1 2\n2 3\n"),
     ("triangle", "p cep 3 3\n1 2\n1 3\n2 3\n"),
     ("alone", "p cep 1 0\n"),
@@ -379,7 +392,31 @@ struct Stored {
     held: &'static str,
 }
 
-const STORES: [Stored; 5] = [
+const STORES: [Stored; 7] = [
+    Stored {
+        case: Case {
+            words: &["solve", "path", "--certificate", "old", "--branchings", "1"],
+            failing: [&[], &[], &[]],
+            loads: &["path"],
+            status: 0,
+            out: PATH_REPORT,
+            err: "",
+        },
+        name: "old",
+        held: PATH_CERT,
+    },
+    Stored {
+        case: Case {
+            words: &["solve", "none", "--certificate", "old", "--branchings", "1"],
+            failing: [&[], &[], &[]],
+            loads: &["none"],
+            status: 0,
+            out: NONE_REPORT,
+            err: "",
+        },
+        name: "old",
+        held: NONE_CERT,
+    },
     Stored {
         case: Case {
             words: &["solve", "star", "--certificate", "old", "--branchings", "0"],
