@@ -7,15 +7,15 @@
 
 mod answer;
 mod checked;
+mod commands;
 mod form;
 mod instance;
 mod lines;
 mod options;
 mod refusal;
 mod report;
-mod run;
 mod stop;
 mod words;
 
-pub use run::{run, tell};
+pub use commands::{run, tell};
 pub use stop::Stop;

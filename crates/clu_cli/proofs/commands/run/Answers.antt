@@ -1,5 +1,5 @@
 use Rattle.clu_cli.proofs.Decided.{decided_where_told, stops_refused, stops_turned_down, tells_fault, tells_refusal}
-use Rattle.clu_cli.proofs.run.run.Goals as goal
+use Rattle.clu_cli.proofs.commands.run.Goals as goal
 
 pub returns-clause-turned_down : goal.returns-clause-turned_down
 returns-clause-turned_down g c =

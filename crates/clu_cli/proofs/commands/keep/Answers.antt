@@ -1,6 +1,6 @@
 use Rattle.std.proofs.Common.{◌∙◌}
 use Rattle.clu_cli.proofs.Keeping.{kept_partly}
-use Rattle.clu_cli.proofs.run.keep.Goals as goal
+use Rattle.clu_cli.proofs.commands.keep.Goals as goal
 
 pub returns-in-Err-Failed-clause-tells : goal.returns-in-Err-Failed-clause-tells
 returns-in-Err-Failed-clause-tells g c = record {

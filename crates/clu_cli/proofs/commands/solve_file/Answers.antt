@@ -5,7 +5,7 @@ use Rattle.clu_cli.proofs.Ends.{ends_printed, ends_unkept, ends_unprinted, ends_
 use Rattle.clu_cli.specs.Words.{solve}
 use Rattle.clu_cli.specs.declared.stop.Stop.TheVariants.{Memory}
 use denote.Bor.{Bor}
-use Rattle.clu_cli.proofs.run.solve_file.Goals as goal
+use Rattle.clu_cli.proofs.commands.solve_file.Goals as goal
 
 pub returns-in_err-input-clause-ends : goal.returns-in_err-input-clause-ends
 returns-in_err-input-clause-ends g c =

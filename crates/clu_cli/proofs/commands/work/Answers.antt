@@ -3,7 +3,7 @@ use Rattle.clu_cli.proofs.Asked.{asked_of}
 use Rattle.clu_cli.specs.Headline.{Ends}
 use Rattle.clu_cli.specs.Words.{Command, IsCommand, asked_by}
 use Rattle.clu_cli.specs.declared.words.Command.{Command as Read}
-use Rattle.clu_cli.proofs.run.work.Goals as goal
+use Rattle.clu_cli.proofs.commands.work.Goals as goal
 
 pub returns-in-Some-Solve-clause-ends : goal.returns-in-Some-Solve-clause-ends
 returns-in-Some-Solve-clause-ends g c =

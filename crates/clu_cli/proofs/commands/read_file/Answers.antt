@@ -1,6 +1,6 @@
 use Rattle.std.proofs.Common.{arith}
 use Rattle.clu_cli.proofs.Ends.{gives_only}
-use Rattle.clu_cli.proofs.run.read_file.Goals as goal
+use Rattle.clu_cli.proofs.commands.read_file.Goals as goal
 
 pub returns-in-Ok-clause-found : goal.returns-in-Ok-clause-found
 returns-in-Ok-clause-found g c =

@@ -3,7 +3,7 @@ use Rattle.clu_outside.specs.Sink.{TakesSome, with_bytes}
 use Rattle.clu_cli.proofs.Ends.{check_reports, ends_unread_graph, ends_printed, ends_unproven, ends_unprinted, ends_unread, no_error, passed}
 use Rattle.clu_cli.specs.Words.{check}
 use Rattle.clu_cli.specs.declared.stop.Stop.TheVariants.{Memory}
-use Rattle.clu_cli.proofs.run.check_file.Goals as goal
+use Rattle.clu_cli.proofs.commands.check_file.Goals as goal
 
 pub returns-in_err-against-clause-ends : goal.returns-in_err-against-clause-ends
 returns-in_err-against-clause-ends g c =
