@@ -1,5 +1,5 @@
 -- The steps of a search: a node is finished, and an open leaf is split on its pair.
-use Rattle.std.proofs.Common.{◌≡◌, ◌≢◌, ◌⊎◌, inl, inr, ⊎_elim, ℕ, ◌<◌, ◌≤◌, ◌^◌, ℤ, ◌≤ℤ◌, List, [], ◌∷◌, ◌++◌, None, refl, sym, ap, ◌∙◌, subst, arith, length, map}
+use Rattle.std.proofs.Common.{◌≡◌, ◌≢◌, ◌⊎◌, inl, inr, ⊎_elim, ℕ, ◌<◌, ◌≤◌, ◌^◌, ℤ, ◌≤ℤ◌, List, [], ◌∷◌, ◌++◌, None, Some, refl, sym, ap, ◌∙◌, subst, arith, length, map}
 use Rattle.std.specs.List.{AllByRecursion}
 use Rattle.std.proofs.lemmas.Int.{ints}
 use Rattle.clu_partition.specs.Closed.{Closed as Rules, IsClosed}
@@ -23,10 +23,11 @@ use Rattle.clu_tree.specs.Nodes.{Tree, Shown, HasKey, LeafAt, IsOpenLeaf, items_
 use Rattle.clu_tree.specs.declared.node.Fresh.{Fresh}
 use Rattle.clu_tree.proofs.KeyLaws.{unsplit_once}
 use Rattle.clu_search.specs.Incumbent.{IsIncumbent}
-use Rattle.clu_search.specs.Search.{AreRightlyClosed, AreStates, IsAbove, IsCertOfBest, IsSearch, IsRightlyClosed, made}
+use Rattle.clu_search.specs.Search.{AreChildren, AreRightlyClosed, AreStates, IsAbove, IsCertOfBest, IsSearch, IsRightlyClosed, made}
 use Rattle.clu_search.specs.Whole.{certificate_of}
 use Rattle.clu_search.specs.declared.incumbent.Incumbent.{Incumbent}
 use Rattle.clu_search.specs.declared.search.Search.{Search}
+use Rattle.clu_search.specs.declared.states.Children.{Children}
 use Rattle.clu_search.specs.declared.states.States.{States}
 use Rattle.clu_search.proofs.Certified.{IsFound, found_valid, found_exact, found_fits, found_branchings, found_optimal}
 
@@ -101,6 +102,20 @@ with_states s states i are = record {
   posed = i.posed;
   state = i.state;
   states = subst (λ r. AreStates r states) i.states.root are;
+  root = i.root;
+  floor = i.floor;
+  room = i.room;
+  known = i.known;
+  settled = i.settled;
+}
+
+-- the same search with the children's states of the node that it split
+pub with_children : (s : Search) (children : Children) → IsSearch s → AreChildren (whole_state s.problem.now s.start.now) children →
+    IsSearch (record s { states = record s.states { children = Some children } })
+with_children s children i are = record {
+  posed = i.posed;
+  state = i.state;
+  states = record { undecided = i.states.undecided; root = i.states.root; children = are };
   root = i.root;
   floor = i.floor;
   room = i.room;

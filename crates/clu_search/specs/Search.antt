@@ -1,5 +1,5 @@
 -- How far a search is: the branch tree of all vertices, and the best partition so far.
-use Rattle.std.specs.Prelude.{◌≡◌, ◌⊎◌, ℕ, ◌≤◌, ℤ, ◌≤ℤ◌, ◌<ℤ◌, List, [], None}
+use Rattle.std.specs.Prelude.{◌≡◌, ◌⊎◌, ℕ, ◌≤◌, ℤ, ◌≤ℤ◌, ◌<ℤ◌, List, [], None, IfSome}
 use Rattle.clu_objective.specs.Problem.{IsPosed}
 use Rattle.clu_state.specs.State.{State, IsState}
 use Rattle.clu_node.specs.declared.bound.NodeBound.{NodeBound}
@@ -12,6 +12,7 @@ use Rattle.clu_tree.specs.Nodes.{LeafAt, Shown, items_of}
 use Rattle.clu_search.specs.Incumbent.{IsIncumbent}
 use Rattle.clu_search.specs.Outcome.{StatesItsBound, branchings_of}
 use Rattle.clu_search.specs.declared.search.Search.{Search}
+use Rattle.clu_search.specs.declared.states.Children.{Children}
 use Rattle.clu_search.specs.declared.states.States.{States}
 
 -- the leaf is closed only where its bound is no more than this value, and it is closed where it has no free pair
@@ -23,12 +24,16 @@ pub record IsRightlyClosed (best : ℤ) (node : NodeBound) : Type 0 where
 abbrev pub AreRightlyClosed : ℤ → List Shown → Type 0
 AreRightlyClosed best nodes = (key : ℕ) (node : NodeBound) → LeafAt key node nodes → IsRightlyClosed best node
 
--- three states of one problem: the first has no decisions, the others may have some
+-- two states of the same problem, with any decisions
+pub record AreChildren (first : State) (children : Children) : Type 0 where
+  pub together : children.together ≡ record first { decisions = children.together.decisions }
+  pub apart : children.apart ≡ record first { decisions = children.apart.decisions }
+
+-- a state without decisions, and the two children's, where they are there
 pub record AreStates (first : State) (states : States) : Type 0 where
   pub undecided : first.decisions ≡ []
   pub root : states.root ≡ first
-  pub together : states.together ≡ record first { decisions = states.together.decisions }
-  pub apart : states.apart ≡ record first { decisions = states.apart.decisions }
+  pub children : IfSome states.children (AreChildren first)
 
 -- the rules are for the problem, the tree is that of all its vertices, and its bounds were found beside partitions no better
 -- than the best one

@@ -78,20 +78,21 @@ impl<'p> Search<'p> {
         };
         let (u, v) = pair;
         let path = self.tree.path(alloc, key)?;
-        self.states.split_after(alloc, &path, u, v)?;
+        let children = self.states.split_after(alloc, &path, u, v)?;
         let together = fresh(
             alloc,
-            &self.states.together,
+            &children.together,
             &mut self.incumbent,
             &mut self.scratch,
         )?;
         let apart = fresh(
             alloc,
-            &self.states.apart,
+            &children.apart,
             &mut self.incumbent,
             &mut self.scratch,
         )?;
         self.tree.split(key, u, v, together, apart)?;
+        self.states.children = Some(children);
         Ok(())
     }
 

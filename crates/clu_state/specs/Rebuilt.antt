@@ -10,6 +10,11 @@ pub record Leads (s : State) (a : ℕ) : Type 0 where
   pub member : Contains s.members a
   pub least : leader s a ≡ a
 
+-- the place among the members at which the least vertex of the group of v stands
+pub record IsGroupPlace (s : State) (v p : ℕ) : Type 0 where
+  pub within : p < length s.members
+  pub there : slice_index s.members p ≡ leader s v
+
 -- The tables agree with a state: the group of each vertex, the place of each member, the weights between groups and the
 -- marks of those that are apart, both by the places of the groups' least vertices, and the weight inside groups.
 pub record TablesAgree (s : State) (group place : List ℕ) (weights : Pairs) (apart : Chosen) (fixed : ℤ) : Type 0 where

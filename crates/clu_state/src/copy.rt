@@ -1,5 +1,5 @@
-//! A state taken over from another one of the same problem: no table is allocated anew, so that a search keeps a few states
-//! and rebuilds each once a node.
+//! A state made like another one, or taken over from another one of the same problem: then no table is allocated anew, so that a
+//! search keeps a few states and rebuilds each once a node.
 
 ghost use Rattle.std.specs.Prelude.{◌≡◌, IfOk, OnOk, OnErr};
 
@@ -7,6 +7,15 @@ use crate::Rebuilt;
 use std::alloc::{AllocError, Global};
 
 impl<'p> Rebuilt<'p> {
+    /// A second state like this one.
+    pub fn duplicate(&self, alloc: Global) -> Result<Rebuilt<'p>, AllocError>
+        ensures { IfOk result (λ copy. copy ≡ self.now) }
+    {
+        let mut copy = Rebuilt::new(alloc, self.pairs, self.start, &self.members)?;
+        copy.copy_from(alloc, self)?;
+        Ok(copy)
+    }
+
     /// Takes the decisions and the groups of another state of the same weights, rules and members, in
     /// time linear in their pairs. After an error, want of memory for the decisions, it is as it was.
     pub fn copy_from(&mut self, alloc: Global, other: &Rebuilt<'p>) -> Result<(), AllocError>

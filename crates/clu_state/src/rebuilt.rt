@@ -4,7 +4,7 @@
 
 ghost use Rattle.std.specs.Prelude.{All, min, max, ◌≡◌, ◌≢◌, ◌↔◌, ◌<◌, ◌≤◌, ◌^◌, ℕ, ℤ, ◌+ℤ◌, Contains, IsTrue, length, if◌then◌else◌, ◌==◌, slice_index, slice_set, unsigned_abs, EachIndex};
 ghost use Rattle.clu_partition.specs.Pairs.{Pairs, weight_of, with_weight, IsTable};
-ghost use Rattle.clu_state.specs.Rebuilt.{TablesAgree};
+ghost use Rattle.clu_state.specs.Rebuilt.{IsGroupPlace, TablesAgree};
 ghost use Rattle.clu_state.specs.State.{State, CanDecide, decided};
 
 use crate::build::{home, is_member, place_of};
@@ -67,14 +67,14 @@ impl<'p> Situation for Rebuilt<'p> {
     }
 
     fn weight(&self, u: Vertex, v: Vertex) -> i128 {
-        let p = place_of(&self.place, self.group_of(u));
-        let q = place_of(&self.place, self.group_of(v));
+        let p = self.place_of_group(u);
+        let q = self.place_of_group(v);
         self.weights.at(p, q)
     }
 
     fn is_apart(&self, u: Vertex, v: Vertex) -> bool {
-        let p = place_of(&self.place, self.group_of(u));
-        let q = place_of(&self.place, self.group_of(v));
+        let p = self.place_of_group(u);
+        let q = self.place_of_group(v);
         self.apart.has_at(p, q)
     }
 
@@ -106,6 +106,16 @@ impl<'p> Situation for Rebuilt<'p> {
                 Ok(())
             }
         }
+    }
+}
+
+impl<'p> Rebuilt<'p> {
+    /// The place of the least vertex of a member's group.
+    fn place_of_group(&self, v: Vertex) -> Place
+        requires { Contains self.now.members v }
+        ensures { IsGroupPlace self.now v result }
+    {
+        home(&self.group, &self.place, v)
     }
 }
 

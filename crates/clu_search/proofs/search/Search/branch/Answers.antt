@@ -1,8 +1,9 @@
-use Rattle.std.proofs.Common.{rules, sym, ap, ◌∙◌}
+use Rattle.std.proofs.Common.{rules, sym, ap, ◌∙◌, subst}
 use Rattle.clu_state.specs.State.{IsFree}
 use Rattle.clu_tree.specs.Nodes.{state_at}
+use Rattle.clu_search.specs.Search.{AreChildren}
 use Rattle.clu_search.specs.declared.search.Search.{Search}
-use Rattle.clu_search.proofs.Searching.{along, free_along, leaf_key, no_pair, open_leaf, settled_more, settled_split, with_nodes, with_states, with_fresh}
+use Rattle.clu_search.proofs.Searching.{along, free_along, leaf_key, no_pair, open_leaf, settled_more, settled_split, with_children, with_nodes, with_states, with_fresh}
 use Rattle.clu_search.proofs.search.Search.branch.Goals as goal
 
 pub bound_at-requires : goal.bound_at-requires
@@ -32,16 +33,18 @@ split-requires-clause-open c = open_leaf c.args.self.now c.args.key c.requires.s
 pub returns-clause-search : goal.returns-clause-search
 returns-clause-search c =
     let states = c.split_after.new.self in
+    let children = c.in_ok-children.children in
+    let are = subst (λ r. AreChildren r children) c.requires.search.states.root c.in_ok-children.ensures.children in
     let one : Search = record c.args.self.now { states = states } in
-    let i = with_states c.args.self.now states c.requires.search c.in_ok-split_after.ensures.states in
+    let i = with_states c.args.self.now states c.requires.search c.in_ok-children.ensures.states in
     let two : Search = record one { incumbent = c.fresh.new.best; scratch = c.fresh.new.scratch } in
-    let first = with_fresh one states.together states.together.decisions c.fresh.new.best c.fresh.new.scratch i i.states.together
+    let first = with_fresh one children.together children.together.decisions c.fresh.new.best c.fresh.new.scratch i are.together
     c.in_ok-together.ensures.known c.in_ok-together.ensures.risen c.in_ok-together.ensures.room in
     let three : Search = record two { incumbent = c.fresh-2.new.best; scratch = c.fresh-2.new.scratch } in
-    let second = with_fresh two states.apart states.apart.decisions c.fresh-2.new.best c.fresh-2.new.scratch first first.states.apart
+    let second = with_fresh two children.apart children.apart.decisions c.fresh-2.new.best c.fresh-2.new.scratch first are.apart
     c.in_ok-apart.ensures.known c.in_ok-apart.ensures.risen c.in_ok-apart.ensures.room in
-    with_nodes three c.split.new.self _ second c.in_ok-split.ensures.ok
+    with_children _ children (with_nodes three c.split.new.self _ second c.in_ok-split.ensures.ok
     (settled_split c.fresh-2.new.best.value c.args.self.now.tree.nodes c.split.new.self.nodes _ _ c.in_ok-together.together.bound c.in_ok-apart.apart.bound c.in_ok-split.ensures.bounds
     second.settled
     (settled_more c.fresh.new.best.value c.fresh-2.new.best.value c.in_ok-together.together.bound c.in_ok-apart.ensures.risen c.in_ok-together.ensures.settled)
-    c.in_ok-apart.ensures.settled)
+    c.in_ok-apart.ensures.settled)) are

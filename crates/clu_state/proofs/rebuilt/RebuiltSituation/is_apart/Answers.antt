@@ -1,41 +1,25 @@
-use Rattle.std.proofs.Common.{length, slice_index, arith, subst, ap, ap₂, ◌∙◌}
+use Rattle.std.proofs.Common.{arith, subst, ◌∙◌}
 use Rattle.clu_state.specs.State.{State}
 use Rattle.clu_state.specs.Rebuilt.{TablesAgree}
-use Rattle.clu_state.proofs.Told.{placed, apart_at}
+use Rattle.clu_state.proofs.Told.{apart_at}
 use Rattle.clu_state.proofs.rebuilt.RebuiltSituation.is_apart.Goals as goal
-
-pub place_of-p-requires : goal.place_of-p-requires
-place_of-p-requires c =
-    let g = subst (λ (s : State). TablesAgree s c.self.inside.group.items c.self.inside.place.items c.self.inside.weights c.self.inside.apart c.self.inside.fixed) c.self.view_is c.self.invariant in
-    let p = (placed c.args.self.now c.self.inside.group.items c.self.inside.place.items c.self.inside.weights c.self.inside.apart c.self.inside.fixed c.args.u g c.requires.first).leads in
-    let d = ap length c.deref.ensures.value in
-    omega (arith, p, d, c.group_of.ensures.value)
-
-pub place_of-q-requires : goal.place_of-q-requires
-place_of-q-requires c =
-    let g = subst (λ (s : State). TablesAgree s c.self.inside.group.items c.self.inside.place.items c.self.inside.weights c.self.inside.apart c.self.inside.fixed) c.self.view_is c.self.invariant in
-    let p = (placed c.args.self.now c.self.inside.group.items c.self.inside.place.items c.self.inside.weights c.self.inside.apart c.self.inside.fixed c.args.v g c.requires.second).leads in
-    let d = ap length c.deref-2.ensures.value in
-    omega (arith, p, d, c.group_of-2.ensures.value)
 
 pub has_at-requires-clause-first : goal.has_at-requires-clause-first
 has_at-requires-clause-first c =
     let g = subst (λ (s : State). TablesAgree s c.self.inside.group.items c.self.inside.place.items c.self.inside.weights c.self.inside.apart c.self.inside.fixed) c.self.view_is c.self.invariant in
-    let p = (placed c.args.self.now c.self.inside.group.items c.self.inside.place.items c.self.inside.weights c.self.inside.apart c.self.inside.fixed c.args.u g c.requires.first).in_marks in
-    let e = c.place_of-p.ensures ∙ ap₂ slice_index c.deref.ensures.value c.group_of.ensures.value in
-    omega (arith, p, e)
+    let p = c.place_of_group-p.ensures.within in
+    let k = g.marks_size in
+    omega (arith, p, k)
 
 pub has_at-requires-clause-second : goal.has_at-requires-clause-second
 has_at-requires-clause-second c =
     let g = subst (λ (s : State). TablesAgree s c.self.inside.group.items c.self.inside.place.items c.self.inside.weights c.self.inside.apart c.self.inside.fixed) c.self.view_is c.self.invariant in
-    let p = (placed c.args.self.now c.self.inside.group.items c.self.inside.place.items c.self.inside.weights c.self.inside.apart c.self.inside.fixed c.args.v g c.requires.second).in_marks in
-    let e = c.place_of-q.ensures ∙ ap₂ slice_index c.deref-2.ensures.value c.group_of-2.ensures.value in
-    omega (arith, p, e)
+    let p = c.place_of_group-q.ensures.within in
+    let k = g.marks_size in
+    omega (arith, p, k)
 
 pub returns : goal.returns
 returns c =
     let g = subst (λ (s : State). TablesAgree s c.self.inside.group.items c.self.inside.place.items c.self.inside.weights c.self.inside.apart c.self.inside.fixed) c.self.view_is c.self.invariant in
-    let e = c.place_of-p.ensures ∙ ap₂ slice_index c.deref.ensures.value c.group_of.ensures.value in
-    let f = c.place_of-q.ensures ∙ ap₂ slice_index c.deref-2.ensures.value c.group_of-2.ensures.value in
-    let k = apart_at c.args.self.now c.self.inside.group.items c.self.inside.place.items c.self.inside.weights c.self.inside.apart c.self.inside.fixed c.args.u c.args.v c.place_of-p.result c.place_of-q.result g c.requires.first c.requires.second c.requires.differ e f in
+    let k = apart_at c.args.self.now c.self.inside.group.items c.self.inside.place.items c.self.inside.weights c.self.inside.apart c.self.inside.fixed c.args.u c.args.v c.place_of_group-p.result c.place_of_group-q.result g c.requires.first c.requires.second c.requires.differ c.place_of_group-p.ensures c.place_of_group-q.ensures in
     c.has_at.ensures ∙ k
