@@ -1,13 +1,13 @@
 -- How a command ends, from what its steps tell.
 use Rattle.std.proofs.Common.{◌≡◌, ℕ, ◌≤◌, List, length, refl, sym, ◌∙◌, ap, subst, arith, inl, inr, Option, Some, None, Bool, Ok, Err}
-use Rattle.std.specs.Prelude.{◌⊎◌, if◌then◌else◌, Result, IsErrAnd, IsErrOf}
+use Rattle.std.specs.Prelude.{◌⊎◌, if◌then◌else◌, Result, IsErrAnd}
 use Rattle.clu_outside.specs.Counts.{last_count}
 use Rattle.clu_outside.specs.Folder.{Told, after_load, Holds, Lacks, IsStored, IsStoredPartly, CallsWithin, stores_of}
 use Rattle.clu_outside.specs.Sink.{TakesSome, with_bytes}
 use Rattle.clu_cert.specs.Text.{cert_text}
 use Rattle.clu_cert.specs.declared.certificate.Certificate.{Certificate}
 use Rattle.clu_cli.specs.Headline.{Ends, FindsFault, Gives, GivesOnly, IsAnswer, IsBarred, IsProofOf, IsTurnedDownBy, NoneCertifies, Reports, Stores, StoresPartly, StopsAfter, max_bytes}
-use Rattle.clu_cli.specs.Steps.{IsKeptWhole, StopsCheck, StopsInput, StopsKeeping, StopsLoad, StopsWrite}
+use Rattle.clu_cli.specs.Steps.{IsKeptWhole, StopsCheck, StopsInput, StopsKeeping, StopsLoad, StopsWrite, TellsLoad}
 use Rattle.clu_cli.specs.Instances.{IsInstance, Refuses}
 use Rattle.clu_cli.proofs.InstanceLaws.{one_instance}
 use Rattle.clu_cli.specs.Words.{Command, solve, check, form_of, graph_file}
@@ -16,10 +16,6 @@ use Rattle.clu_cli.specs.declared.instance.Instance.{Instance}
 use Rattle.clu_cli.specs.declared.refusal.Refusal.{Refusal}
 use Rattle.clu_cli.specs.declared.stop.Stop.{Stop}
 use Rattle.clu_cli.specs.declared.stop.Stop.TheVariants.{BadText, Rejected, Refused, Words, ReadFault, WriteFault, Memory, TooLong, NoFile}
-
--- a call that gave a value has no error
-pub no_error : {T E : Type 0} (x : T) (error : E) → IsErrOf (Ok x) error → ⊥
-no_error x error e = cc
 
 -- ---- over one load
 lacks_from : (old : Option Told) (file name : List ℕ) → Lacks (after_load file old) name → Lacks old name
@@ -82,22 +78,20 @@ unmade : (command : Command) (before after : Option Told) (old new : Option (Lis
 unmade command before after old new (inl is) same = inl (0, stops_unloaded command before after old new is same)
 unmade command before after old new (inr is) same = inl (1, stops_once command before after old new is same)
 
-pub ends_unread_graph : {T : Type 0} (command : Command) (before after : Option Told) (old new : Option (List ℕ)) (stop : Stop) → StopsInput before (graph_file command) (form_of command) stop
-    → ((◌≡◌ {A = Result T Stop} (Err stop) (Err Memory) → ⊥) → after ≡ after_load (graph_file command) before)
-    → (◌≡◌ {A = Result T Stop} (Err stop) (Err Memory) → (after ≡ before) ⊎ (after ≡ after_load (graph_file command) before))
-    → new ≡ old → Ends command before after old new (Err stop)
-ends_unread_graph command before after old new (BadText line) h later memory same = absurd h
-ends_unread_graph command before after old new (Rejected reject) h later memory same = absurd h
-ends_unread_graph command before after old new (Refused refusal) h later memory same = (h, stops_once command before after old new (later (λ e. cc)) same)
-ends_unread_graph command before after old new Words h later memory same = absurd h
-ends_unread_graph command before after old new ReadFault h later memory same = (1, omega arith, stops_once command before after old new (later (λ e. cc)) same)
-ends_unread_graph command before after old new WriteFault h later memory same = absurd h
-ends_unread_graph command before after old new Memory h later memory same = unmade command before after old new (memory refl) same
-ends_unread_graph command before after old new TooLong h later memory same = (h, stops_once command before after old new (later (λ e. cc)) same)
-ends_unread_graph (solve file form certificate limit) before after old new NoFile h later memory same =
-    (h, stops_once (solve file form certificate limit) before after old new (later (λ e. cc)) same)
-ends_unread_graph (check file name form) before after old new NoFile h later memory same =
-    inl (h, stops_once (check file name form) before after old new (later (λ e. cc)) same)
+pub ends_unread_graph : (command : Command) (before after : Option Told) (old new : Option (List ℕ)) (stop : Stop) → StopsInput before (graph_file command) (form_of command) stop
+    → TellsLoad (Some stop) (graph_file command) before after → new ≡ old → Ends command before after old new (Err stop)
+ends_unread_graph command before after old new (BadText line) h next same = absurd h
+ends_unread_graph command before after old new (Rejected reject) h next same = absurd h
+ends_unread_graph command before after old new (Refused refusal) h next same = (h, stops_once command before after old new next same)
+ends_unread_graph command before after old new Words h next same = absurd h
+ends_unread_graph command before after old new ReadFault h next same = (1, omega arith, stops_once command before after old new next same)
+ends_unread_graph command before after old new WriteFault h next same = absurd h
+ends_unread_graph command before after old new Memory h next same = unmade command before after old new next same
+ends_unread_graph command before after old new TooLong h next same = (h, stops_once command before after old new next same)
+ends_unread_graph (solve file form certificate limit) before after old new NoFile h next same =
+    (h, stops_once (solve file form certificate limit) before after old new next same)
+ends_unread_graph (check file name form) before after old new NoFile h next same =
+    inl (h, stops_once (check file name form) before after old new next same)
 
 -- want of memory after the load of the graph
 pub ends_unsolved : (command : Command) (before after : Option Told) (old new : Option (List ℕ)) → after ≡ after_load (graph_file command) before → new ≡ old
@@ -215,20 +209,18 @@ module _ (file name : List ℕ) (form : Form) (before mid after : Option Told) (
         let both : NoneCertifies instance certificate × FindsFault instance certificate stop = subst (λ (bs : List ℕ). NoneCertifies instance bs × FindsFault instance bs stop) is_shown none in
         (instance, given_here, certificate, held_here certificate h, both.0, both.1)
 
-    pub ends_unread : {T : Type 0} (limit : ℕ) (stop : Stop) → limit ≡ last_count → StopsLoad mid name limit stop
-        → ((◌≡◌ {A = Result T Stop} (Err stop) (Err Memory) → ⊥) → after ≡ after_load name mid)
-        → (◌≡◌ {A = Result T Stop} (Err stop) (Err Memory) → (after ≡ mid) ⊎ (after ≡ after_load name mid))
+    pub ends_unread : (limit : ℕ) (stop : Stop) → limit ≡ last_count → StopsLoad mid name limit stop → TellsLoad (Some stop) name mid after
         → Ends (check file name form) before after old new (Err stop)
-    ends_unread limit (BadText line) all h later memory = absurd h
-    ends_unread limit (Rejected reject) all h later memory = absurd h
-    ends_unread limit (Refused refusal) all h later memory = absurd h
-    ends_unread limit Words all h later memory = absurd h
-    ends_unread limit ReadFault all h later memory = (2, omega arith, here_twice (later (λ e. cc)))
-    ends_unread limit WriteFault all h later memory = absurd h
-    ends_unread limit Memory all h later memory = unmade_here (memory refl)
-    ends_unread limit TooLong all h later memory = absurd (omega (arith, h.0, all))
-    ends_unread limit NoFile all h later memory =
-        inr (instance, given_here, lacks_from before file name (subst (λ (t : Option Told). Lacks t name) is h), here_twice (later (λ e. cc)))
+    ends_unread limit (BadText line) all h next = absurd h
+    ends_unread limit (Rejected reject) all h next = absurd h
+    ends_unread limit (Refused refusal) all h next = absurd h
+    ends_unread limit Words all h next = absurd h
+    ends_unread limit ReadFault all h next = (2, omega arith, here_twice next)
+    ends_unread limit WriteFault all h next = absurd h
+    ends_unread limit Memory all h next = unmade_here next
+    ends_unread limit TooLong all h next = absurd (omega (arith, h.0, all))
+    ends_unread limit NoFile all h next =
+        inr (instance, given_here, lacks_from before file name (subst (λ (t : Option Told). Lacks t name) is h), here_twice next)
 
     pub ends_unproven : (certificate shown : List ℕ) → Holds mid name certificate → shown ≡ certificate → after ≡ after_load name mid
         → (stop : Stop) → StopsCheck instance shown stop → Ends (check file name form) before after old new (Err stop)

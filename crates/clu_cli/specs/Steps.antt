@@ -1,8 +1,8 @@
 -- The steps of a command, and why each stops it.
-use Rattle.std.specs.Prelude.{◌≡◌, ◌⊎◌, ℕ, ◌<◌, ◌≤◌, List, length, Option, Some, None, Result, IfOk, IfErr, OnOk}
+use Rattle.std.specs.Prelude.{◌≡◌, ◌⊎◌, ℕ, ◌<◌, ◌≤◌, List, length, Option, Some, None, Result, Ok, Err, IfOk, IfErr, OnOk}
 use Rattle.std.specs.Global.{Vec}
-use Rattle.clu_outside.specs.Counts.{last_count}
-use Rattle.clu_outside.specs.Folder.{Told, Holds, HoldsMore, Lacks, IsStored, IsStoredPartly, CallsWithin, stores_of}
+use Rattle.clu_outside.specs.Counts.{last_count, Rose}
+use Rattle.clu_outside.specs.Folder.{Told, after_load, Holds, HoldsMore, Lacks, IsStored, IsStoredPartly, CallsWithin, stores_of}
 use Rattle.clu_outside.specs.Sink.{TakesSome, with_bytes}
 use Rattle.clu_cert.specs.Text.{cert_text}
 use Rattle.clu_cert.specs.declared.certificate.Certificate.{Certificate}
@@ -13,6 +13,36 @@ use Rattle.clu_cli.specs.declared.instance.Instance.{Instance}
 use Rattle.clu_cli.specs.declared.refusal.Refusal.TheVariants.{Graph, Network, Objective}
 use Rattle.clu_cli.specs.declared.stop.Stop.{Stop}
 use Rattle.clu_cli.specs.declared.stop.Stop.TheVariants.{BadText, Rejected, Refused, Words, ReadFault, WriteFault, Memory, TooLong, NoFile}
+
+-- the stop that a step ended with
+abbrev pub stop_of : {T : Type 0} → Result T Stop → Option Stop
+stop_of (Ok value) = None
+stop_of (Err stop) = Some stop
+
+-- what a folder tells after a load of a name; at want of memory it may not have begun
+abbrev pub TellsLoad : Option Stop → List ℕ → Option Told → Option Told → Type 0
+TellsLoad (Some Memory) name before after = (after ≡ before) ⊎ (after ≡ after_load name before)
+TellsLoad other name before after = after ≡ after_load name before
+
+-- the faults of loads: one more at a read fault, and no more at any other end
+abbrev pub CountsLoads : Option Stop → ℕ → ℕ → Type 0
+CountsLoads (Some ReadFault) before after = Rose before after
+CountsLoads other before after = after ≡ before
+
+-- the faults of a folder's stores or of a sink: one more at a write fault, and no more at any other end
+abbrev pub CountsWrites : Option Stop → ℕ → ℕ → Type 0
+CountsWrites (Some WriteFault) before after = Rose before after
+CountsWrites other before after = after ≡ before
+
+-- those of a folder's stores and of a sink together: one more of one of them at a write fault, and no more at any other end
+abbrev pub CountsEither : Option Stop → ℕ → ℕ → ℕ → ℕ → Type 0
+CountsEither (Some WriteFault) stores stores_after writes writes_after = Rose stores stores_after ⊎ Rose writes writes_after
+CountsEither other stores stores_after writes writes_after = (stores_after ≡ stores) × (writes_after ≡ writes)
+
+-- what the faults of a folder and of a sink say of the end of a command
+pub record CountsFaults (stop : Option Stop) (loads_before loads_after stores_before stores_after writes_before writes_after : ℕ) : Type 0 where
+  pub loads : CountsLoads stop loads_before loads_after
+  pub writes : CountsEither stop stores_before stores_after writes_before writes_after
 
 -- why there are no bytes of that name: it is missing, its file is longer than a limit, or a fault or want of memory came
 abbrev pub StopsLoad : Option Told → List ℕ → ℕ → Stop → Type 0

@@ -4,14 +4,13 @@
 ghost use Rattle.std.specs.Prelude.{◌≡◌, ◌≢◌, ◌↔◌, ◌≤◌, ◌⊎◌, IfErr, IfOk, IfSome, IsErrOf, IsTrue, Some};
 ghost use Rattle.std.specs.Option.{option_map};
 ghost use Rattle.clu_outside.specs.Counts.{Rose};
-ghost use Rattle.clu_outside.specs.Folder.{after_load};
 ghost use Rattle.clu_outside.specs.Sink.{TakesSome};
 ghost use Rattle.clu_cert.specs.Fits.{Fits};
 ghost use Rattle.clu_cli.specs.Forms.{HasFewPlaces};
 ghost use Rattle.clu_cli.specs.Headline.{Gives, GivesOnly, PrintsReport, StopsTurnedDown, StopsRefused, StopsUnread, StopsUnmade, StopsTooLong, StopsAbsent, IsTruncated, DecidesStatus, TellsFault, TellsRefusal, Ends};
 ghost use Rattle.clu_cli.specs.Instances.{Poses, PrintsWorth};
 ghost use Rattle.clu_cli.specs.Status.{end_status, is_status, stop_line, WritesLine};
-ghost use Rattle.clu_cli.specs.Steps.{Keeps, LoadGives, PrintsBytes, StopsInput};
+ghost use Rattle.clu_cli.specs.Steps.{CountsFaults, CountsLoads, CountsWrites, Keeps, LoadGives, PrintsBytes, StopsInput, TellsLoad, stop_of};
 ghost use Rattle.clu_cli.specs.Words.{Command as Asks, IsCommand, Asked, solve as solves, check as checks};
 
 use crate::answer::answer_of;
@@ -30,14 +29,8 @@ const MAX_BYTES: u64 = 67_108_864;
 /// The bytes under a name, unless they are longer than the limit.
 fn load<F: Folder>(alloc: Global, folder: &mut F, name: &str, limit: u64) -> Result<Vec<u8>, Stop>
     ensures tells { LoadGives (F.told folder.old) name.now limit result }
-    ensures later { (IsErrOf result Stop.Memory → ⊥)
-        → F.told folder.new ≡ after_load name.now (F.told folder.old) }
-    ensures memory { IsErrOf result Stop.Memory → (F.told folder.new ≡ F.told folder.old)
-        ⊎ (F.told folder.new ≡ after_load name.now (F.told folder.old)) }
-    ensures read_fault { IsErrOf result Stop.ReadFault
-        → Rose (F.load_faults folder.old) (F.load_faults folder.new) }
-    ensures no_read_fault { (IsErrOf result Stop.ReadFault → ⊥)
-        → F.load_faults folder.new ≡ F.load_faults folder.old }
+    ensures after { TellsLoad (stop_of result) name.now (F.told folder.old) (F.told folder.new) }
+    ensures loads { CountsLoads (stop_of result) (F.load_faults folder.old) (F.load_faults folder.new) }
     ensures stores { F.store_faults folder.new ≡ F.store_faults folder.old }
 {
     match folder.load(alloc, name, limit) {
@@ -61,14 +54,8 @@ fn read_file<F: Folder>(
     ensures poses { IfOk result (λ input. Poses input.instance input.problem) }
     ensures prints { IfOk result (λ input. PrintsWorth input.instance input.problem) }
     ensures stops { IfErr result (λ stop. StopsInput (F.told folder.old) file.now form stop) }
-    ensures later { (IsErrOf result Stop.Memory → ⊥)
-        → F.told folder.new ≡ after_load file.now (F.told folder.old) }
-    ensures memory { IsErrOf result Stop.Memory → (F.told folder.new ≡ F.told folder.old)
-        ⊎ (F.told folder.new ≡ after_load file.now (F.told folder.old)) }
-    ensures read_fault { IsErrOf result Stop.ReadFault
-        → Rose (F.load_faults folder.old) (F.load_faults folder.new) }
-    ensures no_read_fault { (IsErrOf result Stop.ReadFault → ⊥)
-        → F.load_faults folder.new ≡ F.load_faults folder.old }
+    ensures after { TellsLoad (stop_of result) file.now (F.told folder.old) (F.told folder.new) }
+    ensures loads { CountsLoads (stop_of result) (F.load_faults folder.old) (F.load_faults folder.new) }
     ensures stores { F.store_faults folder.new ≡ F.store_faults folder.old }
 {
     let bytes = load(alloc, folder, file, MAX_BYTES)?;
@@ -88,10 +75,7 @@ fn keep<F: Folder>(
     requires { Fits certificate.now }
     ensures tells { Keeps (option_map (λ name. name.now) name.entry) (F.told folder.old)
         (F.told folder.new) certificate.now result }
-    ensures write_fault { IsErrOf result Stop.WriteFault
-        → Rose (F.store_faults folder.old) (F.store_faults folder.new) }
-    ensures no_write_fault { (IsErrOf result Stop.WriteFault → ⊥)
-        → F.store_faults folder.new ≡ F.store_faults folder.old }
+    ensures stores { CountsWrites (stop_of result) (F.store_faults folder.old) (F.store_faults folder.new) }
     ensures loads { F.load_faults folder.new ≡ F.load_faults folder.old }
 {
     let Some(name) = name else {
@@ -110,10 +94,7 @@ fn keep<F: Folder>(
 /// Writes a report.
 fn print<O: Sink>(out: &mut O, bytes: &[u8]) -> Result<(), Stop>
     ensures tells { PrintsBytes (O.written out.old) (O.written out.new) bytes.now result }
-    ensures write_fault { IsErrOf result Stop.WriteFault
-        → Rose (O.faults out.old) (O.faults out.new) }
-    ensures no_write_fault { (IsErrOf result Stop.WriteFault → ⊥)
-        → O.faults out.new ≡ O.faults out.old }
+    ensures writes { CountsWrites (stop_of result) (O.faults out.old) (O.faults out.new) }
 {
     match write_whole(out, bytes) {
         Ok(()) => Ok(()),
@@ -137,17 +118,8 @@ fn solve_file<F: Folder, O: Sink>(
     ensures ends { Ends (solves file.now form (option_map (λ name. name.now) certificate.entry) branchings)
         (F.told folder.old) (F.told folder.new) (O.written out.old) (O.written out.new) result }
     ensures asked { IsErrOf result Stop.Words → ⊥ }
-    ensures read_fault { IsErrOf result Stop.ReadFault
-        → Rose (F.load_faults folder.old) (F.load_faults folder.new) }
-    ensures no_read_fault { (IsErrOf result Stop.ReadFault → ⊥)
-        → F.load_faults folder.new ≡ F.load_faults folder.old }
-    ensures write_fault { IsErrOf result Stop.WriteFault
-        → Rose (F.store_faults folder.old) (F.store_faults folder.new)
-        ⊎ Rose (O.faults out.old) (O.faults out.new) }
-    ensures no_store_fault { (IsErrOf result Stop.WriteFault → ⊥)
-        → F.store_faults folder.new ≡ F.store_faults folder.old }
-    ensures no_write_fault { (IsErrOf result Stop.WriteFault → ⊥)
-        → O.faults out.new ≡ O.faults out.old }
+    ensures faults { CountsFaults (stop_of result) (F.load_faults folder.old) (F.load_faults folder.new)
+        (F.store_faults folder.old) (F.store_faults folder.new) (O.faults out.old) (O.faults out.new) }
 {
     let input = read_file(alloc, folder, file, form)?;
     let answer = answer_of(alloc, &input, branchings)?;
@@ -170,17 +142,8 @@ fn check_file<F: Folder, O: Sink>(
     ensures ends { Ends (checks file.now certificate.now form) (F.told folder.old) (F.told folder.new)
         (O.written out.old) (O.written out.new) result }
     ensures asked { IsErrOf result Stop.Words → ⊥ }
-    ensures read_fault { IsErrOf result Stop.ReadFault
-        → Rose (F.load_faults folder.old) (F.load_faults folder.new) }
-    ensures no_read_fault { (IsErrOf result Stop.ReadFault → ⊥)
-        → F.load_faults folder.new ≡ F.load_faults folder.old }
-    ensures write_fault { IsErrOf result Stop.WriteFault
-        → Rose (F.store_faults folder.old) (F.store_faults folder.new)
-        ⊎ Rose (O.faults out.old) (O.faults out.new) }
-    ensures no_store_fault { (IsErrOf result Stop.WriteFault → ⊥)
-        → F.store_faults folder.new ≡ F.store_faults folder.old }
-    ensures no_write_fault { (IsErrOf result Stop.WriteFault → ⊥)
-        → O.faults out.new ≡ O.faults out.old }
+    ensures faults { CountsFaults (stop_of result) (F.load_faults folder.old) (F.load_faults folder.new)
+        (F.store_faults folder.old) (F.store_faults folder.new) (O.faults out.old) (O.faults out.new) }
 {
     let against = read_file(alloc, folder, file, form)?;
     let bytes = load(alloc, folder, certificate, u64::MAX)?;
@@ -201,17 +164,8 @@ fn work<F: Folder, O: Sink>(
         (O.written out.old) (O.written out.new) result) }
     ensures unasked { IsErrOf result Stop.Words → F.told folder.new ≡ F.told folder.old }
     ensures quiet { IsErrOf result Stop.Words → O.written out.new ≡ O.written out.old }
-    ensures read_fault { IsErrOf result Stop.ReadFault
-        → Rose (F.load_faults folder.old) (F.load_faults folder.new) }
-    ensures no_read_fault { (IsErrOf result Stop.ReadFault → ⊥)
-        → F.load_faults folder.new ≡ F.load_faults folder.old }
-    ensures write_fault { IsErrOf result Stop.WriteFault
-        → Rose (F.store_faults folder.old) (F.store_faults folder.new)
-        ⊎ Rose (O.faults out.old) (O.faults out.new) }
-    ensures no_store_fault { (IsErrOf result Stop.WriteFault → ⊥)
-        → F.store_faults folder.new ≡ F.store_faults folder.old }
-    ensures no_write_fault { (IsErrOf result Stop.WriteFault → ⊥)
-        → O.faults out.new ≡ O.faults out.old }
+    ensures faults { CountsFaults (stop_of result) (F.load_faults folder.old) (F.load_faults folder.new)
+        (F.store_faults folder.old) (F.store_faults folder.new) (O.faults out.old) (O.faults out.new) }
 {
     match read_words(words) {
         Some(
