@@ -59,6 +59,10 @@ FailsRules named (line ∷ lines) earlier error =
 abbrev pub IsRulesFault : (List ℕ → ℕ → Type 0) → List ℕ → RuleError → Type 0
 IsRulesFault named bytes error = FailsRules named (enumerate_from 1 (lines_of bytes)) [] error
 
+-- the bytes are a text of these rules
+abbrev pub IsTextOf : (List ℕ → ℕ → Type 0) → List ℕ → List Rule → Type 0
+IsTextOf named bytes rules = ReadsRules named (enumerate_from 1 (lines_of bytes)) [] rules
+
 -- the bytes are a text of rules that give these pairs of n vertices
 pub record AreRules (n : ℕ) (named : List ℕ → ℕ → Type 0) (bytes : List ℕ) (required forbidden : List (ℕ × ℕ)) : Type 0 where
   pub rules : List Rule

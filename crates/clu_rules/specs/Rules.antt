@@ -42,6 +42,12 @@ Requires rules u v = (rule : Rule) × Contains rules rule × RuleRequires rules 
 abbrev pub Forbids : List Rule → ℕ → ℕ → Type 0
 Forbids rules u v = (rule : Rule) × Contains rules rule × RuleForbids rules rule u v
 
+-- labels that obey the rules: vertices that a rule requires to share a block have equal labels, and those that one forbids to
+-- have different ones
+pub record Obeys (rules : List Rule) (label : ℕ → ℕ) : Type 0 where
+  pub together : (u v : ℕ) → Requires rules u v → label u ≡ label v
+  pub apart : (u v : ℕ) → Forbids rules u v → label u ≢ label v
+
 -- the list rises, and each pair has its smaller vertex first and two of n vertices, which may be equal
 pub record IsPairList (n : ℕ) (list : List (ℕ × ℕ)) : Type 0 where
   pub rising : AreRising list
