@@ -7,3 +7,4 @@ pub mod BelowLaws
 pub mod FormLaws
 pub mod Excluded
 pub mod OneReading
+pub mod ClosureLaws

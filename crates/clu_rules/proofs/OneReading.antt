@@ -13,7 +13,7 @@ use Rattle.clu_rules.specs.Rules.{IsListOf, Requires, Forbids}
 use Rattle.clu_rules.proofs.FormLaws.{adds_once}
 
 -- two rising lists with the same pairs are one
-rising_same : (xs ys : List (ℕ × ℕ)) → AreRising xs → AreRising ys → ((p : ℕ × ℕ) → Contains xs p → Contains ys p) → ((p : ℕ × ℕ) → Contains ys p → Contains xs p) → xs ≡ ys
+pub rising_same : (xs ys : List (ℕ × ℕ)) → AreRising xs → AreRising ys → ((p : ℕ × ℕ) → Contains xs p → Contains ys p) → ((p : ℕ × ℕ) → Contains ys p → Contains xs p) → xs ≡ ys
 rising_same [] [] r s f g = refl
 rising_same [] (y ∷ ys) r s f g = let c = g y (0, omega arith, refl) in let l = c.1 in absurd (omega (arith, l))
 rising_same (x ∷ xs) [] r s f g = let c = f x (0, omega arith, refl) in let l = c.1 in absurd (omega (arith, l))
@@ -30,13 +30,13 @@ rising_same (x ∷ xs) (y ∷ ys) r s f g = ap (λ (p : ℕ × ℕ). p ∷ xs) h
     back' : (p : ℕ × ℕ) → Contains ys p → Contains xs p
     back' p c = ⊎_elim (λ e. absurd (irreflexive p (subst (λ k. Precedes k p) (sym heads ∙ e) (All-contains (Precedes y) ys p s.0 c)))) (λ d. d) (front_or_rest x xs p (g p (Contains-append_right (y ∷ []) ys p c)))
 
-list_once : (n : ℕ) (R : ℕ → ℕ → Type 0) (xs ys : List (ℕ × ℕ)) → IsListOf n R xs → IsListOf n R ys → xs ≡ ys
+pub list_once : (n : ℕ) (R : ℕ → ℕ → Type 0) (xs ys : List (ℕ × ℕ)) → IsListOf n R xs → IsListOf n R ys → xs ≡ ys
 list_once n R xs ys a b = rising_same xs ys a.listed.rising b.listed.rising
     (λ p c. b.each p.0 p.1 (All-contains (λ q. (q.0 ≤ q.1) × (q.1 < n)) xs p a.listed.ordered c).0 (a.only p.0 p.1 c))
     (λ p c. a.each p.0 p.1 (All-contains (λ q. (q.0 ≤ q.1) × (q.1 < n)) ys p b.listed.ordered c).0 (b.only p.0 p.1 c))
 
 module _ (named : List ℕ → ℕ → Type 0) (one : (name : List ℕ) (u v : ℕ) → named name u → named name v → u ≡ v) where
-  reads_once : (lines : List (ℕ × List ℕ)) (earlier rules others : List Rule) → ReadsRules named lines earlier rules → ReadsRules named lines earlier others → rules ≡ others
+  pub reads_once : (lines : List (ℕ × List ℕ)) (earlier rules others : List Rule) → ReadsRules named lines earlier rules → ReadsRules named lines earlier others → rules ≡ others
   reads_once [] earlier rules others r s = sym r ∙ s
   reads_once (line ∷ lines) earlier rules others r s = ⊎_elim
       (λ p. ⊎_elim
