@@ -1,7 +1,6 @@
 -- What a partition is worth is its printed number, and so the printed bound is one of what partitions are worth.
-use Rattle.std.proofs.Common.{◌≡◌, ◌↔◌, ℕ, ℤ, ◌≤◌, List, Bool, true, false, IsTrue, All, slice_index, refl, sym, ap, subst, arith, if◌then◌else◌}
-use Rattle.std.proofs.lemmas.List.Elements.{All-nil}
-use Rattle.clu_partition.specs.Closed.{Closed, BindsNothing, IsPermitted}
+use Rattle.std.proofs.Common.{◌≡◌, ◌↔◌, ℕ, ℤ, ◌≤◌, List, Bool, true, false, IsTrue, slice_index, refl, subst, arith, if◌then◌else◌}
+use Rattle.clu_partition.specs.Closed.{Closed, IsPermitted}
 use Rattle.clu_partition.specs.Pairs.{weight_of}
 use Rattle.clu_partition.specs.Partition.{below, IsPartition}
 use Rattle.clu_partition.specs.Values.{value_on}
@@ -18,10 +17,12 @@ module _ (instance : Instance) (problem : Posed) (poses : Poses instance problem
       → printed problem (value_on (weight_of problem.pairs) (slice_index labels) (below problem.pairs.n)) ≡ worth instance labels
   value_worth labels partition = worth_printed instance problem poses prints labels partition.one_each
 
-  pub none_better : (bound : ℤ) → ((labels : List ℕ) → IsBetterOrEqual problem.objective bound (printed problem (value_on (weight_of problem.pairs) (slice_index labels) (below problem.pairs.n)))) →
-      (others : List ℕ) → IsPartition (vertices_of instance) others → IsReached instance bound others
-  none_better bound h others partition = subst (λ (z : ℤ). IsBetterOrEqual (objective_of instance) bound z) (value_worth others partition)
-      (subst (λ (o : Objective). IsBetterOrEqual o bound (printed problem (value_on (weight_of problem.pairs) (slice_index others) (below problem.pairs.n)))) (objective_posed instance problem poses) (h others))
+  pub none_better : (bound : ℤ) (start : Closed)
+      → ((label : ℕ → ℕ) → IsPermitted start label → IsBetterOrEqual problem.objective bound (printed problem (value_on (weight_of problem.pairs) label (below problem.pairs.n))))
+      → (others : List ℕ) → IsPartition (vertices_of instance) others → IsPermitted start (slice_index others) → IsReached instance bound others
+  none_better bound start h others partition permitted = subst (λ (z : ℤ). IsBetterOrEqual (objective_of instance) bound z) (value_worth others partition)
+      (subst (λ (o : Objective). IsBetterOrEqual o bound (printed problem (value_on (weight_of problem.pairs) (slice_index others) (below problem.pairs.n)))) (objective_posed instance problem poses)
+      (h (slice_index others) permitted))
 
 -- the status is 0 or 1
 pub at_most_one : (b : Bool) → (if b then 0 else 1) ≤ 1
@@ -45,10 +46,3 @@ one_where false P h e p = let q : IsTrue false = h.1 p in cc
 pub all_made : (end : End) (P : Type 0) (made limit : ℕ) → (end ≡ Optimal) ↔ P → (end ≡ Branchings) ↔ ((P → ⊥) × (made ≡ limit)) → (P → ⊥) → made ≡ limit
 all_made Optimal P made limit o b gap = absurd (gap (o.0 refl))
 all_made Branchings P made limit o b gap = (b.0 refl).1
-
--- rules that bind nothing permit each partition
-pub all_permitted : (n : ℕ) (start : Closed) → BindsNothing n start → (label : ℕ → ℕ) → IsPermitted start label
-all_permitted n start free label = record {
-  required = λ v at. let size = free.size in ap label (free.alone v (omega (arith, at, size)));
-  forbidden = subst (All (λ p. label p.0 ≡ label p.1 → ⊥)) (sym free.none_forbidden) (All-nil (λ p. label p.0 ≡ label p.1 → ⊥));
-}

@@ -8,7 +8,7 @@ use Rattle.clu_cli.specs.declared.form.Form.{Form}
 use Rattle.clu_cli.specs.declared.form.Form.TheVariants.{Edits, Agreement, Modularity}
 use Rattle.clu_cli.specs.Forms.{IsForm, GivesDecimals}
 use Rattle.clu_cli.specs.Options.{Given, given_of, nothing}
-use Rattle.clu_cli.specs.Words.{AllowsBranchings, AreWords, Asked, Command, IsCheck, IsCommand, GivesName, IsSolve, solve, check}
+use Rattle.clu_cli.specs.Words.{AllowsBranchings, AreWords, Asked, AsksFor, Command, IsCheck, IsCommand, GivesName, IsSolve, Source, solve, check}
 
 -- ---- what options give
 one_number : (word : List ℕ) (a b : ℕ) → IsU64 word a → IsU64 word b → a ≡ b
@@ -45,74 +45,61 @@ one_limit : (word : Option (List ℕ)) (a b : ℕ) → AllowsBranchings word a �
 one_limit None a b this that = this ∙ sym that
 one_limit (Some word) a b this that = one_number word a b this that
 
+one_source : (file : List ℕ) (given : Given) (source other : Source) → AsksFor file given source → AsksFor file given other → source ≡ other
+one_source file given source other this that =
+    let files = this.file_is ∙ sym that.file_is in
+    let forms = one_form given source.form other.form this.form that.form in
+    let rules = one_name given.rules source.rules other.rules this.rules that.rules in
+    λ i. record { file = files i; form = forms i; rules = rules i }
+
 -- ---- the one command
 abbrev first_byte : List (List ℕ) → ℕ
 first_byte words = slice_index (slice_index_or words 0 []) 0
 
-not_both : (words : List (List ℕ)) (file other name : List ℕ) (form asked : Form) (certificate : Option (List ℕ)) (limit : ℕ)
-    → IsSolve words file form certificate limit → IsCheck words other name asked → ⊥
-not_both words file other name form asked certificate limit this that =
-    let e : first_byte (codes "solve" ∷ file ∷ this.options) ≡ first_byte (codes "check" ∷ other ∷ name ∷ that.options) = ap first_byte (sym this.words_are ∙ that.words_are) in
+not_both : (words : List (List ℕ)) (source other : Source) (name : List ℕ) (certificate : Option (List ℕ)) (limit : ℕ)
+    → IsSolve words source certificate limit → IsCheck words other name → ⊥
+not_both words source other name certificate limit this that =
+    let e : first_byte (codes "solve" ∷ this.file ∷ this.options) ≡ first_byte (codes "check" ∷ that.file ∷ name ∷ that.options) = ap first_byte (sym this.words_are ∙ that.words_are) in
     let n : 115 ≡ 99 = e in
     absurd (omega (arith, n))
 
-solve_once : (words : List (List ℕ)) (file other : List ℕ) (form asked : Form) (certificate given : Option (List ℕ)) (limit most : ℕ)
-    → IsSolve words file form certificate limit → IsSolve words other asked given most → solve file form certificate limit ≡ solve other asked given most
-solve_once words file other form asked certificate name limit most this that =
-    let e : codes "solve" ∷ file ∷ this.options ≡ codes "solve" ∷ other ∷ that.options = sym this.words_are ∙ that.words_are in
-    let files : file ≡ other = cc in
+asks_here : (file other : List ℕ) (given more : Given) (source : Source) → file ≡ other → given ≡ more → AsksFor file given source → AsksFor other more source
+asks_here file other given more source files same asks =
+    subst (λ (name : List ℕ). AsksFor name more source) files (subst (λ (g : Given). AsksFor file g source) same asks)
+
+same_given : (options others : List (List ℕ)) (given other : Given) → options ≡ others → given_of options nothing ≡ Some given → given_of others nothing ≡ Some other → other ≡ given
+same_given options others given other same gives gave =
+    let e : Some given ≡ Some other = sym gives ∙ ap (λ (ws : List (List ℕ)). given_of ws nothing) same ∙ gave in cc
+
+solve_once : (words : List (List ℕ)) (source other : Source) (certificate name : Option (List ℕ)) (limit most : ℕ)
+    → IsSolve words source certificate limit → IsSolve words other name most → solve source certificate limit ≡ solve other name most
+solve_once words source other certificate name limit most this that =
+    let e : codes "solve" ∷ this.file ∷ this.options ≡ codes "solve" ∷ that.file ∷ that.options = sym this.words_are ∙ that.words_are in
+    let files : that.file ≡ this.file = cc in
     let options : this.options ≡ that.options = cc in
-    let gives : Some this.given ≡ Some that.given = sym this.gives ∙ ap (λ (ws : List (List ℕ)). given_of ws nothing) options ∙ that.gives in
-    let same : that.given ≡ this.given = cc in
-    let forms = one_form this.given form asked this.asks (subst (λ (g : Given). IsForm g asked) same that.asks) in
+    let same = same_given this.options that.options this.given that.given options this.gives that.gives in
+    let sources = one_source this.file this.given source other this.asks (asks_here that.file this.file that.given this.given other files same that.asks) in
     let names = one_name this.given.certificate certificate name this.names (subst (λ (g : Given). GivesName g.certificate name) same that.names) in
     let limits = one_limit this.given.branchings limit most this.allows (subst (λ (g : Given). AllowsBranchings g.branchings most) same that.allows) in
-    λ i. solve (files i) (forms i) (names i) (limits i)
+    λ i. solve (sources i) (names i) (limits i)
 
-check_once : (words : List (List ℕ)) (file other name given : List ℕ) (form asked : Form)
-    → IsCheck words file name form → IsCheck words other given asked → check file name form ≡ check other given asked
-check_once words file other name given form asked this that =
-    let e : codes "check" ∷ file ∷ name ∷ this.options ≡ codes "check" ∷ other ∷ given ∷ that.options = sym this.words_are ∙ that.words_are in
-    let files : file ≡ other = cc in
+check_once : (words : List (List ℕ)) (source other : Source) (name given : List ℕ) → IsCheck words source name → IsCheck words other given
+    → check source name ≡ check other given
+check_once words source other name given this that =
+    let e : codes "check" ∷ this.file ∷ name ∷ this.options ≡ codes "check" ∷ that.file ∷ given ∷ that.options = sym this.words_are ∙ that.words_are in
+    let files : that.file ≡ this.file = cc in
     let names : name ≡ given = cc in
     let options : this.options ≡ that.options = cc in
-    let gives : Some this.given ≡ Some that.given = sym this.gives ∙ ap (λ (ws : List (List ℕ)). given_of ws nothing) options ∙ that.gives in
-    let same : that.given ≡ this.given = cc in
-    let forms = one_form this.given form asked this.asks (subst (λ (g : Given). IsForm g asked) same that.asks) in
-    λ i. check (files i) (names i) (forms i)
+    let same = same_given this.options that.options this.given that.given options this.gives that.gives in
+    let sources = one_source this.file this.given source other this.asks (asks_here that.file this.file that.given this.given other files same that.asks) in
+    λ i. check (sources i) (names i)
 
 one_command : (words : List (List ℕ)) (c d : Command) → AreWords words c → AreWords words d → c ≡ d
-one_command words (solve file form certificate limit) (solve other asked given most) this that = solve_once words file other form asked certificate given limit most this that
-one_command words (solve file form certificate limit) (check other name asked) this that = absurd (not_both words file other name form asked certificate limit this that)
-one_command words (check file name form) (solve other asked given most) this that = absurd (not_both words other file name asked form given most that this)
-one_command words (check file name form) (check other given asked) this that = check_once words file other name given form asked this that
+one_command words (solve source certificate limit) (solve other name most) this that = solve_once words source other certificate name limit most this that
+one_command words (solve source certificate limit) (check other name) this that = absurd (not_both words source other name certificate limit this that)
+one_command words (check source name) (solve other certificate limit) this that = absurd (not_both words other source name certificate limit that this)
+one_command words (check source name) (check other given) this that = check_once words source other name given this that
 
 -- what holds of the command that the words name is a fact of each that they give
 pub asked_of : (words : List (String Global)) (command : Command) (Fact : Command → Type 0) → IsCommand words command → Fact command → Asked words Fact
 asked_of words command Fact is fact = λ other asked. subst Fact (one_command _ command other is asked) fact
-
--- ---- words of no command
-module _ (file : List ℕ) (options : List (List ℕ)) where
-  none_given_solve : given_of options nothing ≡ None → (form : Form) (name : Option (List ℕ)) (limit : ℕ)
-      → IsSolve (codes "solve" ∷ file ∷ options) file form name limit → ⊥
-  none_given_solve none form name limit s =
-      let same : s.options ≡ options = let e = s.words_are in cc in
-      let e : Some s.given ≡ None = sym s.gives ∙ ap (λ (ws : List (List ℕ)). given_of ws nothing) same ∙ none in cc
-
-  module _ (given : Given) (gives : given_of options nothing ≡ Some given) where
-    solve_given : (form : Form) (name : Option (List ℕ)) (limit : ℕ) (s : IsSolve (codes "solve" ∷ file ∷ options) file form name limit) → s.given ≡ given
-    solve_given form name limit s =
-        let same : s.options ≡ options = let e = s.words_are in cc in
-        let e : Some s.given ≡ Some given = sym s.gives ∙ ap (λ (ws : List (List ℕ)). given_of ws nothing) same ∙ gives in cc
-
-    pub no_form : ((form : Form) → IsForm given form → ⊥) → (form : Form) (name : Option (List ℕ)) (limit : ℕ)
-        → IsSolve (codes "solve" ∷ file ∷ options) file form name limit → ⊥
-    no_form none form name limit s = none form (subst (λ (g : Given). IsForm g form) (solve_given form name limit s) s.asks)
-
-    pub no_name : ((name : Option (List ℕ)) → GivesName given.certificate name → ⊥) → (form : Form) (name : Option (List ℕ)) (limit : ℕ)
-        → IsSolve (codes "solve" ∷ file ∷ options) file form name limit → ⊥
-    no_name none form name limit s = none name (subst (λ (g : Given). GivesName g.certificate name) (solve_given form name limit s) s.names)
-
-    pub no_limit : ((limit : ℕ) → AllowsBranchings given.branchings limit → ⊥) → (form : Form) (name : Option (List ℕ)) (limit : ℕ)
-        → IsSolve (codes "solve" ∷ file ∷ options) file form name limit → ⊥
-    no_limit none form name limit s = none limit (subst (λ (g : Given). AllowsBranchings g.branchings limit) (solve_given form name limit s) s.allows)

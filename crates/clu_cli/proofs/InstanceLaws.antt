@@ -79,6 +79,7 @@ refused_or_instance form.Edits bytes (refusal.Graph error) (Agreement net) refus
 refused_or_instance form.Edits bytes (refusal.Graph error) (Modularity net) refused is = absurd is
 refused_or_instance form.Edits bytes (refusal.Network error) instance refused is = absurd refused
 refused_or_instance form.Edits bytes (refusal.Objective error) instance refused is = absurd refused
+refused_or_instance form.Edits bytes (refusal.Rules error) instance refused is = absurd refused
 refused_or_instance (form.Agreement places) bytes (refusal.Graph error) instance refused is = absurd refused
 refused_or_instance (form.Agreement places) bytes (refusal.Network error) (Edits graph) refused is = absurd is
 refused_or_instance (form.Agreement places) bytes (refusal.Network error) (Agreement net) refused is = unread places bytes net error is.list refused
@@ -88,6 +89,7 @@ refused_or_instance (form.Agreement places) bytes (refusal.Objective error) (Agr
     let same = one_list places bytes refused.1 net refused.2 is.list in
     not_agreeable refused.1 error refused.0 refused.3 (subst (λ (one : Net). all_sizes one.lines ≤ 2 ^ 88) same is.light)
 refused_or_instance (form.Agreement places) bytes (refusal.Objective error) (Modularity net) refused is = absurd is
+refused_or_instance (form.Agreement places) bytes (refusal.Rules error) instance refused is = absurd refused
 refused_or_instance (form.Modularity places) bytes (refusal.Graph error) instance refused is = absurd refused
 refused_or_instance (form.Modularity places) bytes (refusal.Network error) (Edits graph) refused is = absurd is
 refused_or_instance (form.Modularity places) bytes (refusal.Network error) (Agreement net) refused is = absurd is
@@ -100,6 +102,7 @@ refused_or_instance (form.Modularity places) bytes (refusal.Objective error) (Mo
     (subst (λ (one : Net). first_negative one.lines ≡ None) same is.none_negative)
     (subst (λ (one : Net). all_weight one.lines ≢ pos 0) same is.some)
     (subst (λ (one : Net). all_weight one.lines ≤ℤ pos (2 ^ 43)) same is.light)
+refused_or_instance (form.Modularity places) bytes (refusal.Rules error) instance refused is = absurd refused
 
 -- ---- one problem
 pub one_problem : (instance : Instance) (p q : Posed) → Poses instance p → Poses instance q → p ≡ q

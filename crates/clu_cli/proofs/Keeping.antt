@@ -1,10 +1,10 @@
 -- What storing a certificate leaves.
 use Rattle.std.proofs.Common.{◌≡◌, ℕ, List, length, sym, ap, subst, inr, Option, Some}
 use Rattle.std.specs.Option.{option_map}
-use Rattle.clu_outside.specs.Folder.{Told, IsStored, IsStoredPartly, CallsWithin, stores_of}
+use Rattle.clu_outside.specs.Folder.{Told, IsStoredPartly, CallsWithin, stores_of}
 use Rattle.clu_cert.specs.Text.{cert_text}
 use Rattle.clu_cert.specs.declared.certificate.Certificate.{Certificate}
-use Rattle.clu_cli.specs.Steps.{IsKeptWhole, StopsKeeping, StopsWrite}
+use Rattle.clu_cli.specs.Steps.{StopsKeeping, StopsWrite}
 use Rattle.clu_cli.specs.declared.stop.Stop.{Stop}
 use denote.Bor.{Bor}
 
@@ -15,9 +15,6 @@ module _ (given : Option (Bor (List ℕ))) (name : Bor (List ℕ)) (at : given �
 
   few_here : CallsWithin (stores_of (length (cert_text cert))) old new
   few_here = subst (λ (bs : List ℕ). CallsWithin (stores_of (length bs)) old new) is few
-
-  pub kept_whole : IsStored old new name.now bytes → IsKeptWhole (option_map (λ (n : Bor (List ℕ)). n.now) given) old new cert
-  kept_whole h = subst (λ (o : Option (List ℕ)). IsKeptWhole o old new cert) (sym named) (subst (λ (bs : List ℕ). IsStored old new name.now bs) is h, few_here)
 
   pub kept_partly : (stop : Stop) → StopsWrite stop → IsStoredPartly old new name.now bytes
       → StopsKeeping (option_map (λ (n : Bor (List ℕ)). n.now) given) old new cert stop

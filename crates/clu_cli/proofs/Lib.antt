@@ -5,5 +5,7 @@ pub mod Decided
 pub mod Ends
 pub mod InstanceLaws
 pub mod Keeping
+pub mod Loads
 pub mod OptionLaws
 pub mod Printing
+pub mod Sources

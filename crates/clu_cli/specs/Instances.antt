@@ -3,10 +3,11 @@
 use Rattle.std.specs.Prelude.{◌≡◌, ◌≢◌, ℕ, ℤ, pos, ◌≤◌, ◌≤ℤ◌, ◌*ℤ◌, ◌^◌, List, [], Option, None, Err, length}
 use Rattle.std.specs.List.{enumerate_from}
 use Rattle.clu_text.specs.Lines.{lines_of}
-use Rattle.clu_pace.specs.Numbers.{graph_names}
+use Rattle.clu_pace.specs.Numbers.{IsNumeralOf, graph_names}
 use Rattle.clu_pace.specs.Pace.{IsAccepted}
 use Rattle.clu_pace.specs.Refusals.{IsPaceFault}
 use Rattle.clu_pace.specs.declared.error.PaceError.TheVariants as pace
+use Rattle.clu_network.specs.Naming.{IsNameOf}
 use Rattle.clu_network.specs.Network.{Net}
 use Rattle.clu_network.specs.Reading.{FailsNetwork}
 use Rattle.clu_network.specs.Scaling.{IsNetwork}
@@ -45,6 +46,12 @@ abbrev pub names_of : Instance → List (List ℕ)
 names_of (Edits graph) = graph_names graph
 names_of (Agreement net) = net.names
 names_of (Modularity net) = net.names
+
+-- bytes that name a vertex
+abbrev pub named_in : Instance → List ℕ → ℕ → Type 0
+named_in (Edits graph) = IsNumeralOf graph
+named_in (Agreement net) = IsNameOf net
+named_in (Modularity net) = IsNameOf net
 
 -- the objective of a partition, straight from the edges or the lines
 abbrev pub worth : Instance → List ℕ → ℤ
@@ -115,11 +122,14 @@ abbrev pub Refuses : Form → List ℕ → Refusal → Type 0
 Refuses form.Edits bytes (refusal.Graph error) = (error ≢ pace.Memory) × IsPaceFault bytes error
 Refuses form.Edits bytes (refusal.Network error) = ⊥
 Refuses form.Edits bytes (refusal.Objective error) = ⊥
+Refuses form.Edits bytes (refusal.Rules error) = ⊥
 Refuses (form.Agreement places) bytes (refusal.Graph error) = ⊥
 Refuses (form.Agreement places) bytes (refusal.Network error) = FailsToRead places bytes error
 Refuses (form.Agreement places) bytes (refusal.Objective error) =
     (error ≢ obj.Memory) × (net : Net) × IsEdgeList places bytes net × AnswersAgreement net (Err error)
+Refuses (form.Agreement places) bytes (refusal.Rules error) = ⊥
 Refuses (form.Modularity places) bytes (refusal.Graph error) = ⊥
 Refuses (form.Modularity places) bytes (refusal.Network error) = FailsToRead places bytes error
 Refuses (form.Modularity places) bytes (refusal.Objective error) =
     (error ≢ obj.Memory) × (net : Net) × IsEdgeList places bytes net × AnswersModularity net (Err error)
+Refuses (form.Modularity places) bytes (refusal.Rules error) = ⊥

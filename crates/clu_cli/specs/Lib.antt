@@ -1,3 +1,4 @@
+pub mod Cases
 pub mod Forms
 pub mod Headline
 pub mod Instances
@@ -6,4 +7,5 @@ pub mod Options
 pub mod Report
 pub mod Status
 pub mod Steps
+pub mod Verdicts
 pub mod Words

@@ -1,5 +1,5 @@
 -- The exit statuses, and the lines on err.
-use Rattle.std.specs.Prelude.{◌≡◌, ℕ, ◌+◌, Bool, ◌==◌, ◌||◌, ◌&&◌, List, ◌++◌, Option, Result, Ok, Err, codes, if◌then◌else◌, nat_le}
+use Rattle.std.specs.Prelude.{◌≡◌, ℕ, Bool, ◌||◌, ◌&&◌, List, ◌++◌, Option, Result, Ok, Err, codes, if◌then◌else◌, nat_le}
 use Rattle.std.specs.Fmt.{decimal, signed_decimal}
 use Rattle.clu_outside.specs.Sink.{TakesSome}
 use Rattle.clu_pace.specs.declared.error.PaceError.{PaceError}
@@ -8,20 +8,25 @@ use Rattle.clu_network.specs.declared.error.NetError.{NetError}
 use Rattle.clu_network.specs.declared.error.NetError.TheVariants as net
 use Rattle.clu_objective.specs.declared.error.ObjError.{ObjError}
 use Rattle.clu_objective.specs.declared.error.ObjError.TheVariants as obj
+use Rattle.clu_rules.specs.declared.error.RuleError.{RuleError}
+use Rattle.clu_rules.specs.declared.error.RuleError.TheVariants as rule
 use Rattle.clu_check.specs.declared.reject.Reject.{Reject}
 use Rattle.clu_check.specs.declared.reject.Reject.TheVariants as reject
 use Rattle.clu_cli.specs.Lines.{line}
 use Rattle.clu_cli.specs.declared.refusal.Refusal.{Refusal}
-use Rattle.clu_cli.specs.declared.refusal.Refusal.TheVariants.{Graph, Network, Objective}
+use Rattle.clu_cli.specs.declared.refusal.Refusal.TheVariants.{Graph, Network, Objective, Rules}
+use Rattle.clu_cli.specs.declared.stop.NamedPair.{NamedPair}
 use Rattle.clu_cli.specs.declared.stop.Stop.{Stop}
-use Rattle.clu_cli.specs.declared.stop.Stop.TheVariants.{BadText, Rejected, Refused, Words, ReadFault, WriteFault, Memory, TooLong, NoFile}
+use Rattle.clu_cli.specs.declared.stop.Stop.TheVariants.{BadText, Broken, Contradiction, Rejected, Refused, Words, ReadFault, WriteFault, Memory, TooLong, NoFile}
 
 -- ---- statuses
 -- the exit status of each stop
 abbrev pub stop_status : Stop → ℕ
 stop_status (BadText line) = 3
 stop_status (Rejected reject) = 3
+stop_status (Broken pair) = 3
 stop_status (Refused refusal) = 4
+stop_status (Contradiction pair) = 5
 stop_status Words = 6
 stop_status ReadFault = 7
 stop_status WriteFault = 8
@@ -36,7 +41,7 @@ end_status (Err stop) = stop_status stop
 
 -- the statuses of a run
 abbrev pub is_status : ℕ → Bool
-is_status n = nat_le n 1 || n == 3 || n == 4 || (nat_le 6 n && nat_le n 11)
+is_status n = nat_le n 1 || (nat_le 3 n && nat_le n 11)
 
 -- ---- lines
 -- words and a number
@@ -71,16 +76,28 @@ barred_line obj.NoWeight = line (codes "clu: graph NoWeight")
 barred_line (obj.TotalWeight sum) = counted_line (codes "clu: graph TotalWeight ") sum
 barred_line obj.Memory = line (codes "clu: memory")
 
+-- the same of a rules file
+abbrev pub rules_line : RuleError → List ℕ
+rules_line (rule.BadRule at) = counted_line (codes "clu: rules BadRule line ") at
+rules_line (rule.UnknownVertex at) = counted_line (codes "clu: rules UnknownVertex line ") at
+rules_line (rule.AttributeTwice at) = counted_line (codes "clu: rules AttributeTwice line ") at
+rules_line rule.Memory = line (codes "clu: memory")
+
 abbrev pub refusal_line : Refusal → List ℕ
 refusal_line (Graph error) = pace_line error
 refusal_line (Network error) = network_line error
 refusal_line (Objective error) = barred_line error
+refusal_line (Rules error) = rules_line error
 
--- the number of the condition that fails, and its place; vertices are named from 1
+-- words and the names of two vertices
+abbrev pub named_line : List ℕ → NamedPair → List ℕ
+named_line words pair = line (words ++ pair.first.items ++ codes " " ++ pair.second.items)
+
+-- the number of the condition that fails, and its place; that of a broken rule is told with names
 abbrev pub reject_line : Reject → List ℕ
 reject_line reject.Shape = line (codes "clu: rejected 1")
 reject_line reject.Blocks = line (codes "clu: rejected 2")
-reject_line (reject.Rule u v) = line (codes "clu: rejected 3 " ++ decimal (u + 1) ++ codes " " ++ decimal (v + 1))
+reject_line (reject.Rule u v) = line (codes "clu: rejected 3")
 reject_line (reject.Value found) = line (codes "clu: rejected 4 " ++ signed_decimal found)
 reject_line (reject.Step item) = counted_line (codes "clu: rejected 5 item ") item
 reject_line (reject.Parts part) = counted_line (codes "clu: rejected 6 part ") part
@@ -93,7 +110,9 @@ reject_line reject.Memory = line (codes "clu: memory")
 unfoldable pub stop_line : Stop → List ℕ
 stop_line (BadText at) = counted_line (codes "clu: certificate line ") at
 stop_line (Rejected reject) = reject_line reject
+stop_line (Broken pair) = named_line (codes "clu: rejected 3 ") pair
 stop_line (Refused refusal) = refusal_line refusal
+stop_line (Contradiction pair) = named_line (codes "clu: contradiction ") pair
 stop_line Words = line (codes "clu: words")
 stop_line ReadFault = line (codes "clu: read fault")
 stop_line WriteFault = line (codes "clu: write fault")

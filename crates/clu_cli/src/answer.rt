@@ -1,25 +1,30 @@
-//! A solved instance: the search for a best partition without rules, and the report and certificate
+//! A solved case: the search for a best partition that obeys the rules, and the report and certificate
 //! that it leaves.
 
-ghost use Rattle.std.specs.Prelude.{◌≡◌, ◌≢◌, ◌↔◌, ◌≤◌, ℕ, pos, List, IfOk, if◌then◌else◌, length};
+ghost use Rattle.std.specs.Prelude.{◌≡◌, ◌≢◌, ◌↔◌, ◌≤◌, ◌<◌, ℕ, pos, List, IfOk, if◌then◌else◌, length, slice_index};
 ghost use Rattle.clu_cert.specs.Fits.{Fits};
+ghost use Rattle.clu_cert.specs.Valid.{IsValid};
 ghost use Rattle.clu_pace.specs.Numbers.{graph_names};
+ghost use Rattle.clu_partition.specs.Closed.{IsPermitted};
 ghost use Rattle.clu_partition.specs.Partition.{IsPartition};
-ghost use Rattle.clu_search.specs.Outcome.{branchings_of};
-ghost use Rattle.clu_cli.specs.Headline.{IsAnswer, IsSearched};
+ghost use Rattle.clu_rules.specs.Lines.{Rule};
+ghost use Rattle.clu_search.specs.Count.{count};
+ghost use Rattle.clu_search.specs.Outcome.{StatesItsBound, branchings_of};
+ghost use Rattle.clu_cli.specs.Cases.{IsStartOf, case_of};
+ghost use Rattle.clu_cli.specs.Headline.{IsAnswer};
 ghost use Rattle.clu_cli.specs.Instances.{IsReached, Poses, PrintsWorth, names_of, objective_of, scale_of as scale_in, vertices_of, worth};
 ghost use Rattle.clu_cli.specs.Report.{report};
 
-use crate::instance::{Input, Instance, scale_of};
+use crate::instance::{Instance, Task, scale_of};
 use crate::report::{Facts, report_text};
 use clu_cert::Certificate;
 use clu_network::Network;
 use clu_pace::Graph;
-use clu_partition::{Partition, Start};
+use clu_partition::Partition;
 use clu_search::{End, Limits, Outcome, solve};
 use std::alloc::{AllocError, Global};
 
-/// What a solved instance leaves to be written.
+/// What a solved case leaves to be written.
 #[derive(Drop)]
 pub struct Answer {
     /// The report.
@@ -30,17 +35,19 @@ pub struct Answer {
     pub certificate: Certificate,
 }
 
-/// Solves an instance with this many branchings at most.
-pub fn answer_of(alloc: Global, input: &Input, branchings: u64) -> Result<Answer, AllocError>
-    requires poses { Poses input.now.instance input.now.problem }
-    requires prints { PrintsWorth input.now.instance input.now.problem }
-    ensures { IfOk result (λ answer.
-        IsAnswer input.now.instance answer.text.items answer.certificate branchings
+/// Solves a task with this many branchings at most.
+pub fn answer_of(alloc: Global, task: &Task, branchings: u64) -> Result<Answer, AllocError>
+    requires poses { Poses task.now.instance task.now.problem }
+    requires prints { PrintsWorth task.now.instance task.now.problem }
+    requires sized { length task.now.start.group ≡ vertices_of task.now.instance }
+    ensures { IfOk result (λ answer. (rules : List Rule)
+        → IsStartOf (case_of task.now.instance rules) task.now.start
+        → IsAnswer (case_of task.now.instance rules) answer.text.items answer.certificate branchings
         (if answer.optimal then 0 else 1)) }
 {
-    let found = search(alloc, input, branchings)?;
-    let facts = facts_of(input, &found);
-    let text = text_of(alloc, facts, &found.partition, input)?;
+    let found = search(alloc, task, branchings)?;
+    let facts = facts_of(task, &found);
+    let text = text_of(alloc, facts, &found.partition, &task.instance)?;
     Ok(Answer {
         text,
         optimal: facts.is_optimal(),
@@ -49,35 +56,40 @@ pub fn answer_of(alloc: Global, input: &Input, branchings: u64) -> Result<Answer
 }
 
 /// What the report says of a search beside the blocks.
-fn facts_of(input: &Input, found: &Outcome) -> Facts
-    requires { Poses input.now.instance input.now.problem }
-    ensures objective { result.objective ≡ objective_of input.now.instance }
-    ensures vertices { result.vertices ≡ vertices_of input.now.instance }
+fn facts_of(task: &Task, found: &Outcome) -> Facts
+    requires { Poses task.now.instance task.now.problem }
+    ensures objective { result.objective ≡ objective_of task.now.instance }
+    ensures vertices { result.vertices ≡ vertices_of task.now.instance }
     ensures value { result.value ≡ found.now.certificate.value }
     ensures bound { result.bound ≡ found.now.certificate.bound }
-    ensures scale { pos result.scale ≡ scale_in input.now.instance }
+    ensures scale { pos result.scale ≡ scale_in task.now.instance }
     ensures branchings { result.branchings ≡ found.now.branchings }
 {
     Facts {
-        objective: input.instance.objective(),
-        vertices: input.instance.n(),
+        objective: task.instance.objective(),
+        vertices: task.instance.n(),
         value: found.certificate.value,
         bound: found.certificate.bound,
-        scale: scale_of(&input.problem),
+        scale: scale_of(&task.problem),
         branchings: found.branchings,
     }
 }
 
 /// Searches for a best partition.
-fn search(alloc: Global, input: &Input, branchings: u64) -> Result<Outcome, AllocError>
-    requires poses { Poses input.now.instance input.now.problem }
-    requires prints { PrintsWorth input.now.instance input.now.problem }
-    ensures partition { IfOk result (λ o. IsPartition (vertices_of input.now.instance) o.partition) }
+fn search(alloc: Global, task: &Task, branchings: u64) -> Result<Outcome, AllocError>
+    requires poses { Poses task.now.instance task.now.problem }
+    requires prints { PrintsWorth task.now.instance task.now.problem }
+    requires sized { length task.now.start.group ≡ vertices_of task.now.instance }
+    ensures partition { IfOk result (λ o. IsPartition (vertices_of task.now.instance) o.partition) }
+    ensures permitted { IfOk result (λ o. IsPermitted task.now.start (slice_index o.partition)) }
     ensures labels { IfOk result (λ o. o.certificate.labels ≡ o.partition) }
-    ensures value { IfOk result (λ o. o.certificate.value ≡ worth input.now.instance o.partition) }
-    ensures none_better { IfOk result (λ o. (others : List ℕ) → IsPartition (vertices_of input.now.instance) others
-        → IsReached input.now.instance o.certificate.bound others) }
-    ensures searched { IfOk result (λ o. IsSearched input.now.instance o.certificate) }
+    ensures value { IfOk result (λ o. o.certificate.value ≡ worth task.now.instance o.partition) }
+    ensures none_better { IfOk result (λ o. (others : List ℕ) → IsPartition (vertices_of task.now.instance) others
+        → IsPermitted task.now.start (slice_index others)
+        → IsReached task.now.instance o.certificate.bound others) }
+    ensures valid { IfOk result (λ o. IsValid task.now.problem task.now.start o.certificate) }
+    ensures exact { IfOk result (λ o. StatesItsBound task.now.problem task.now.start o.certificate) }
+    ensures counted { IfOk result (λ o. o.branchings < count task.now.start) }
     ensures branchings { IfOk result (λ o. o.branchings ≡ branchings_of o.certificate) }
     ensures within { IfOk result (λ o. o.branchings ≤ branchings) }
     ensures optimal { IfOk result (λ o. (o.end ≡ End.Optimal)
@@ -86,9 +98,8 @@ fn search(alloc: Global, input: &Input, branchings: u64) -> Result<Outcome, Allo
         ↔ ((o.certificate.value ≢ o.certificate.bound) × (o.branchings ≡ branchings))) }
     ensures fits { IfOk result (λ o. Fits o.certificate) }
 {
-    let start = Start::none(alloc, input.instance.n())?;
     let limits = Limits { branchings };
-    let found = solve(alloc, &input.problem, &start, &limits)?;
+    let found = solve(alloc, &task.problem, &task.start, &limits)?;
     Ok(found)
 }
 
@@ -97,12 +108,12 @@ fn text_of(
     alloc: Global,
     facts: Facts,
     partition: &Partition,
-    input: &Input,
+    instance: &Instance,
 ) -> Result<Vec<u8>, AllocError>
-    requires { length partition.now ≡ vertices_of input.now.instance }
-    ensures { IfOk result (λ text. text.items ≡ report facts (names_of input.now.instance) partition.now) }
+    requires { length partition.now ≡ vertices_of instance.now }
+    ensures { IfOk result (λ text. text.items ≡ report facts (names_of instance.now) partition.now) }
 {
-    match &input.instance {
+    match instance {
         Instance::Edits(graph) => graph_text(alloc, facts, partition, graph),
         Instance::Agreement(network) => network_text(alloc, facts, partition, network),
         Instance::Modularity(network) => network_text(alloc, facts, partition, network),

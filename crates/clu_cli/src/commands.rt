@@ -1,29 +1,31 @@
 //! The program: a command is read from the words, done over a folder and a sink, and told to `err` where
 //! it has no report. Its contract is the headline: what each status, file and printed line means.
 
-ghost use Rattle.std.specs.Prelude.{◌≡◌, ◌≢◌, ◌↔◌, ◌≤◌, ◌⊎◌, IfErr, IfOk, IfSome, IsErrOf, IsTrue, Some};
+ghost use Rattle.std.specs.Prelude.{◌≡◌, ◌≢◌, ◌↔◌, ◌≤◌, ◌⊎◌, IfErr, IfOk, IfSome, IsErrOf, IsTrue, OnOk, Some};
 ghost use Rattle.std.specs.Option.{option_map};
 ghost use Rattle.clu_outside.specs.Counts.{Rose};
 ghost use Rattle.clu_outside.specs.Sink.{TakesSome};
 ghost use Rattle.clu_cert.specs.Fits.{Fits};
 ghost use Rattle.clu_cli.specs.Forms.{HasFewPlaces};
-ghost use Rattle.clu_cli.specs.Headline.{Gives, GivesOnly, PrintsReport, StopsTurnedDown, StopsRefused, StopsUnread, StopsUnmade, StopsTooLong, StopsAbsent, IsTruncated, DecidesStatus, TellsFault, TellsRefusal, Ends};
+ghost use Rattle.clu_cli.specs.Headline.{PrintsReport, IsTruncated, after_loads, files_in};
 ghost use Rattle.clu_cli.specs.Instances.{Poses, PrintsWorth};
 ghost use Rattle.clu_cli.specs.Status.{end_status, is_status, stop_line, WritesLine};
-ghost use Rattle.clu_cli.specs.Steps.{CountsFaults, CountsLoads, CountsWrites, Keeps, LoadGives, PrintsBytes, StopsInput, TellsLoad, stop_of};
-ghost use Rattle.clu_cli.specs.Words.{Command as Asks, IsCommand, Asked, solve as solves, check as checks};
+ghost use Rattle.clu_cli.specs.Steps.{ClosesRules, CountsFaults, CountsLoads, CountsWrites, GivesGraphOnly, Keeps, LoadGives, PosesTask, PrintsBytes, StopsRules, StopsSource, TellsLoad, TellsNamed, stop_of};
+ghost use Rattle.clu_cli.specs.Verdicts.{DecidesStatus, Ends, GraphStops, Stops, StopsUnmade, StopsUnread, TellsCause, absent, contradicted, refused, too_long, turned_down};
+ghost use Rattle.clu_cli.specs.Words.{Command as Asks, IsCommand, Asked, solve as solves, check as checks, source_by};
 
 use crate::answer::answer_of;
 use crate::checked::checked;
-use crate::form::Form;
-use crate::instance::{Input, read_input};
+use crate::instance::{Input, Instance, Task, read_input};
+use crate::rules::read_start;
 use crate::stop::Stop;
-use crate::words::{Command, read_words};
+use crate::words::{Command, Source, read_words};
 use clu_cert::{Certificate, write_cert};
 use clu_outside::{Folder, LoadErr, Sink, WriteErr, store_whole, write_whole};
+use clu_partition::Start;
 use std::alloc::Global;
 
-/// The largest length of a graph file, in bytes.
+/// The largest length of a graph file or of a rules file, in bytes.
 const MAX_BYTES: u64 = 67_108_864;
 
 /// The bytes under a name, unless they are longer than the limit.
@@ -42,27 +44,69 @@ fn load<F: Folder>(alloc: Global, folder: &mut F, name: &str, limit: u64) -> Res
     }
 }
 
-/// Loads and reads a graph file of a form.
-fn read_file<F: Folder>(
-    alloc: Global,
-    folder: &mut F,
-    file: &str,
-    form: Form,
-) -> Result<Input, Stop>
-    requires few { HasFewPlaces form }
-    ensures found { IfOk result (λ input. GivesOnly file.now form (F.told folder.old) input.instance) }
+/// Loads and reads the graph file of a source.
+fn read_graph<F: Folder>(alloc: Global, folder: &mut F, source: Source<'_>) -> Result<Input, Stop>
+    requires few { HasFewPlaces source.form }
+    ensures found { IfOk result (λ input. GivesGraphOnly source.entry.file.now source.entry.form (F.told folder.old) input.instance) }
     ensures poses { IfOk result (λ input. Poses input.instance input.problem) }
     ensures prints { IfOk result (λ input. PrintsWorth input.instance input.problem) }
-    ensures stops { IfErr result (λ stop. StopsInput (F.told folder.old) file.now form stop) }
-    ensures after { TellsLoad (stop_of result) file.now (F.told folder.old) (F.told folder.new) }
+    ensures stops { IfErr result (λ stop. GraphStops (source_by source.entry) (F.told folder.old) stop) }
+    ensures after { TellsLoad (stop_of result) source.entry.file.now (F.told folder.old) (F.told folder.new) }
     ensures loads { CountsLoads (stop_of result) (F.load_faults folder.old) (F.load_faults folder.new) }
     ensures stores { F.store_faults folder.new ≡ F.store_faults folder.old }
 {
-    let bytes = load(alloc, folder, file, MAX_BYTES)?;
-    match read_input(alloc, &bytes, form) {
+    let bytes = load(alloc, folder, source.file, MAX_BYTES)?;
+    match read_input(alloc, &bytes, source.form) {
         Ok(input) => Ok(input),
         Err(stop) => Err(stop),
     }
+}
+
+/// Loads, reads and closes the rules of an instance's vertices; where no file is named nothing is
+/// required or forbidden.
+fn read_rules<F: Folder>(
+    alloc: Global,
+    folder: &mut F,
+    name: Option<&str>,
+    instance: &Instance,
+) -> Result<Start, Stop>
+    ensures closes { IfOk result (λ start. ClosesRules (option_map (λ name. name.now) name.entry)
+        (F.told folder.old) instance.now start) }
+    ensures stops { IfErr result (λ stop. StopsRules (F.told folder.old)
+        (option_map (λ name. name.now) name.entry) instance.now stop) }
+    ensures after { TellsNamed (stop_of result) (option_map (λ name. name.now) name.entry)
+        (F.told folder.old) (F.told folder.new) }
+    ensures loads { CountsLoads (stop_of result) (F.load_faults folder.old) (F.load_faults folder.new) }
+    ensures stores { F.store_faults folder.new ≡ F.store_faults folder.old }
+{
+    let vertices = instance.n();
+    let Some(name) = name else {
+        let start = Start::none(alloc, vertices)?;
+        return Ok(start);
+    };
+    let bytes = load(alloc, folder, name, MAX_BYTES)?;
+    match read_start(alloc, &bytes, instance) {
+        Ok(start) => Ok(start),
+        Err(stop) => Err(stop),
+    }
+}
+
+/// Loads and reads the files of a source.
+fn read_source<F: Folder>(alloc: Global, folder: &mut F, source: Source<'_>) -> Result<Task, Stop>
+    requires few { HasFewPlaces source.form }
+    ensures found { IfOk result (λ task. PosesTask (source_by source.entry) (F.told folder.old) task) }
+    ensures stops { IfErr result (λ stop. StopsSource (source_by source.entry) (F.told folder.old) (F.told folder.new) stop) }
+    ensures loaded { OnOk result (F.told folder.new ≡ after_loads (files_in (source_by source.entry)) (F.told folder.old)) }
+    ensures loads { CountsLoads (stop_of result) (F.load_faults folder.old) (F.load_faults folder.new) }
+    ensures stores { F.store_faults folder.new ≡ F.store_faults folder.old }
+{
+    let Input { instance, problem } = read_graph(alloc, folder, source)?;
+    let start = read_rules(alloc, folder, source.rules, &instance)?;
+    Ok(Task {
+        instance,
+        problem,
+        start,
+    })
 }
 
 /// Stores a certificate where a name is given.
@@ -103,49 +147,47 @@ fn print<O: Sink>(out: &mut O, bytes: &[u8]) -> Result<(), Stop>
     }
 }
 
-/// Solves the graph of a file with this many branchings at most, stores the certificate where a name is
-/// given, and writes the report; says whether the value is the bound.
-fn solve_file<F: Folder, O: Sink>(
+/// Solves a source with this many branchings at most, stores the certificate where a name is given, and
+/// writes the report; says whether the value is the bound.
+fn solve_source<F: Folder, O: Sink>(
     alloc: Global,
-    file: &str,
-    form: Form,
+    source: Source<'_>,
     certificate: Option<&str>,
     branchings: u64,
     folder: &mut F,
     out: &mut O,
 ) -> Result<bool, Stop>
-    requires few { HasFewPlaces form }
-    ensures ends { Ends (solves file.now form (option_map (λ name. name.now) certificate.entry) branchings)
+    requires few { HasFewPlaces source.form }
+    ensures ends { Ends (solves (source_by source.entry) (option_map (λ name. name.now) certificate.entry) branchings)
         (F.told folder.old) (F.told folder.new) (O.written out.old) (O.written out.new) result }
     ensures asked { IsErrOf result Stop.Words → ⊥ }
     ensures faults { CountsFaults (stop_of result) (F.load_faults folder.old) (F.load_faults folder.new)
         (F.store_faults folder.old) (F.store_faults folder.new) (O.faults out.old) (O.faults out.new) }
 {
-    let input = read_file(alloc, folder, file, form)?;
-    let answer = answer_of(alloc, &input, branchings)?;
+    let task = read_source(alloc, folder, source)?;
+    let answer = answer_of(alloc, &task, branchings)?;
     keep(alloc, folder, certificate, &answer.certificate)?;
     print(out, &answer.text)?;
     Ok(answer.optimal)
 }
 
-/// Checks a certificate file against the graph of a file and writes the report; says whether the
-/// certificate is accepted.
-fn check_file<F: Folder, O: Sink>(
+/// Checks a certificate file against a source and writes the report; says whether the certificate is
+/// accepted.
+fn check_source<F: Folder, O: Sink>(
     alloc: Global,
-    file: &str,
+    source: Source<'_>,
     certificate: &str,
-    form: Form,
     folder: &mut F,
     out: &mut O,
 ) -> Result<bool, Stop>
-    requires few { HasFewPlaces form }
-    ensures ends { Ends (checks file.now certificate.now form) (F.told folder.old) (F.told folder.new)
+    requires few { HasFewPlaces source.form }
+    ensures ends { Ends (checks (source_by source.entry) certificate.now) (F.told folder.old) (F.told folder.new)
         (O.written out.old) (O.written out.new) result }
     ensures asked { IsErrOf result Stop.Words → ⊥ }
     ensures faults { CountsFaults (stop_of result) (F.load_faults folder.old) (F.load_faults folder.new)
         (F.store_faults folder.old) (F.store_faults folder.new) (O.faults out.old) (O.faults out.new) }
 {
-    let against = read_file(alloc, folder, file, form)?;
+    let against = read_source(alloc, folder, source)?;
     let bytes = load(alloc, folder, certificate, u64::MAX)?;
     let report = checked(alloc, &against, &bytes)?;
     print(out, &report)?;
@@ -170,19 +212,17 @@ fn work<F: Folder, O: Sink>(
     match read_words(words) {
         Some(
             Command::Solve {
-                file,
-                form,
+                source,
                 certificate,
                 branchings,
             },
-        ) => solve_file(alloc, file, form, certificate, branchings, folder, out),
+        ) => solve_source(alloc, source, certificate, branchings, folder, out),
         Some(
             Command::Check {
-                file,
+                source,
                 certificate,
-                form,
             },
-        ) => check_file(alloc, file, certificate, form, folder, out),
+        ) => check_source(alloc, source, certificate, folder, out),
         None => Err(Stop::Words),
     }
 }
@@ -233,9 +273,11 @@ pub fn run<F: Folder, O: Sink, E: Sink>(
 
     // Each other status has its cause, and says which files were loaded and what else was left: no file
     // has changed and `out` has taken nothing, but for what is cut short.
-    ensures turned_down { result ≡ 3 → Asked words.now (λ command. StopsTurnedDown command
+    ensures turned_down { result ≡ 3 → Asked words.now (λ command. Stops turned_down command
         (F.told folder.old) (F.told folder.new) (O.written out.old) (O.written out.new)) }
-    ensures refused { result ≡ 4 → Asked words.now (λ command. StopsRefused command
+    ensures refused { result ≡ 4 → Asked words.now (λ command. Stops refused command
+        (F.told folder.old) (F.told folder.new) (O.written out.old) (O.written out.new)) }
+    ensures contradicted { result ≡ 5 → Asked words.now (λ command. Stops contradicted command
         (F.told folder.old) (F.told folder.new) (O.written out.old) (O.written out.new)) }
     ensures unread { result ≡ 7 → Asked words.now (λ command. StopsUnread command
         (F.told folder.old) (F.told folder.new) (O.written out.old) (O.written out.new)) }
@@ -243,9 +285,9 @@ pub fn run<F: Folder, O: Sink, E: Sink>(
         (F.told folder.old) (F.told folder.new) (O.written out.old) (O.written out.new)) }
     ensures memory { result ≡ 9 → Asked words.now (λ command. StopsUnmade command
         (F.told folder.old) (F.told folder.new) (O.written out.old) (O.written out.new)) }
-    ensures too_long { result ≡ 10 → Asked words.now (λ command. StopsTooLong command
+    ensures too_long { result ≡ 10 → Asked words.now (λ command. Stops too_long command
         (F.told folder.old) (F.told folder.new) (O.written out.old) (O.written out.new)) }
-    ensures absent { result ≡ 11 → Asked words.now (λ command. StopsAbsent command
+    ensures absent { result ≡ 11 → Asked words.now (λ command. Stops absent command
         (F.told folder.old) (F.told folder.new) (O.written out.old) (O.written out.new)) }
     ensures words { (result ≡ 6) ↔ ((command : Asks) → IsCommand words.now command → ⊥) }
     ensures unasked { result ≡ 6 → F.told folder.new ≡ F.told folder.old }
@@ -262,14 +304,17 @@ pub fn run<F: Folder, O: Sink, E: Sink>(
     ensures no_store_fault { result ≢ 8 → F.store_faults folder.new ≡ F.store_faults folder.old }
     ensures no_write_fault { result ≢ 8 → O.faults out.new ≡ O.faults out.old }
 
-    // What `err` is told: nothing of a report, else the line of the cause; of a certificate that is
-    // turned down the line of what was found, and of a refused graph that of the first refusal.
+    // What `err` is told: nothing of a report, else the line of the cause; of a certificate that is turned
+    // down the line of what was found, of a refused file that of its first refusal, and of rules that
+    // contradict the least pair that shows it.
     ensures silent { result ≤ 1 → E.written err.new ≡ E.written err.old }
     ensures line { 2 ≤ result → WritesLine (E.written err.old) (E.written err.new) result }
-    ensures found { result ≡ 3 → Asked words.now (λ command. TellsFault command
-        (F.told folder.old) (E.written err.old) (E.written err.new)) }
-    ensures refusal { result ≡ 4 → Asked words.now (λ command. TellsRefusal command
-        (F.told folder.old) (E.written err.old) (E.written err.new)) }
+    ensures found { result ≡ 3 → Asked words.now (λ command. TellsCause command
+        (F.told folder.old) (E.written err.old) (E.written err.new) result) }
+    ensures refusal { result ≡ 4 → Asked words.now (λ command. TellsCause command
+        (F.told folder.old) (E.written err.old) (E.written err.new) result) }
+    ensures contradiction { result ≡ 5 → Asked words.now (λ command. TellsCause command
+        (F.told folder.old) (E.written err.old) (E.written err.new) result) }
 {
     let end = work(alloc, words, folder, out);
     finish(alloc, err, end)

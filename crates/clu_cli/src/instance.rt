@@ -13,6 +13,7 @@ use crate::stop::Stop;
 use clu_network::{NetError, Network, read_network};
 use clu_objective::{ObjError, Objective, Problem, pairs_of_graph, pairs_of_network};
 use clu_pace::{Graph, PaceError, read_pace};
+use clu_partition::Start;
 use std::alloc::Global;
 
 /// What a graph file holds, and what its partitions are judged by.
@@ -33,6 +34,18 @@ pub struct Input {
     pub instance: Instance,
     /// The problem that it poses.
     pub problem: Problem,
+}
+
+/// What is solved or checked: an instance, the problem that it poses, and the closed rules of its
+/// partitions.
+#[derive(Debug, Drop)]
+pub struct Task {
+    /// What was read.
+    pub instance: Instance,
+    /// The problem that it poses.
+    pub problem: Problem,
+    /// Which partitions are allowed.
+    pub start: Start,
 }
 
 /// Reads the bytes of a graph file of a form. The errors are the refusal of the reader or of the

@@ -18,6 +18,8 @@ pub(crate) struct Options<'a> {
     pub(crate) objective: Option<&'a str>,
     /// How many decimal places of a weight are kept.
     pub(crate) places: Option<&'a str>,
+    /// The name of the rules file.
+    pub(crate) rules: Option<&'a str>,
 }
 
 /// Reads the words of options; `None` where one is unknown, stands twice or has no value.
@@ -30,6 +32,7 @@ pub(crate) fn read_options(words: &[String]) -> Option<Options<'_>>
         format: None,
         objective: None,
         places: None,
+        rules: None,
     };
     let mut rest = words;
     while let [option, value, more @ ..] = rest {
@@ -76,6 +79,13 @@ fn with_value<'a>(options: Options<'a>, option: &str, value: &'a str) -> Option<
             let places = once(options.places, value)?;
             Some(Options {
                 places: Some(places),
+                ..options
+            })
+        }
+        "--rules" => {
+            let rules = once(options.rules, value)?;
+            Some(Options {
+                rules: Some(rules),
                 ..options
             })
         }

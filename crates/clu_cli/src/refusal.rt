@@ -1,16 +1,17 @@
-//! Why a graph file is refused, as its reader or its objective says it, and the line that tells it: the
-//! cause by its name, and its place.
+//! Why a graph file or a rules file is refused, as its reader or the objective says it, and the line that
+//! tells it: the cause by its name, and its place.
 
 ghost use Rattle.std.specs.Prelude.{◌≡◌, ◌++◌, OnOk};
-ghost use Rattle.clu_cli.specs.Status.{network_line, barred_line, pace_line, refusal_line};
+ghost use Rattle.clu_cli.specs.Status.{network_line, barred_line, pace_line, refusal_line, rules_line};
 
 use crate::lines::{push_count, push_counted, push_counts, push_line};
 use clu_network::NetError;
 use clu_objective::ObjError;
 use clu_pace::PaceError;
+use clu_rules::RuleError;
 use std::alloc::AllocError;
 
-/// Why a graph file is refused.
+/// Why a graph file or a rules file is refused.
 #[derive(Clone, Copy, Debug, PartialEq, Eq)]
 pub enum Refusal {
     /// It is no graph of the PACE challenge.
@@ -19,6 +20,8 @@ pub enum Refusal {
     Network(NetError),
     /// Its edge list has no problem of the objective.
     Objective(ObjError),
+    /// It is no rules file for the vertices of the graph.
+    Rules(RuleError),
 }
 
 /// The line of a refusal.
@@ -29,6 +32,7 @@ pub(crate) fn push_refusal(out: &mut Vec<u8>, refusal: Refusal) -> Result<(), Al
         Refusal::Graph(error) => push_pace(out, error),
         Refusal::Network(error) => push_network(out, error),
         Refusal::Objective(error) => push_objective(out, error),
+        Refusal::Rules(error) => push_rules(out, error),
     }
 }
 
@@ -82,5 +86,25 @@ fn push_objective(out: &mut Vec<u8>, error: ObjError) -> Result<(), AllocError>
         ObjError::NoWeight => push_line(out, "clu: graph NoWeight"),
         ObjError::TotalWeight { sum } => push_counted(out, "clu: graph TotalWeight ", sum),
         ObjError::Memory => push_line(out, "clu: memory"),
+    }
+}
+
+/// The line of a rules file's refusal.
+fn push_rules(out: &mut Vec<u8>, error: RuleError) -> Result<(), AllocError>
+    ensures { OnOk result (out.new.items ≡ out.old.items ++ rules_line error) }
+{
+    match error {
+        RuleError::BadRule { line } => push_count(out, "clu: rules BadRule line ", line),
+        RuleError::UnknownVertex { line } => push_count(
+            out,
+            "clu: rules UnknownVertex line ",
+            line,
+        ),
+        RuleError::AttributeTwice { line } => push_count(
+            out,
+            "clu: rules AttributeTwice line ",
+            line,
+        ),
+        RuleError::Memory => push_line(out, "clu: memory"),
     }
 }

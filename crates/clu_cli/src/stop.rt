@@ -3,26 +3,38 @@
 
 ghost use Rattle.std.specs.Prelude.{◌≡◌, ◌++◌, IfOk, OnOk};
 ghost use Rattle.clu_cli.specs.declared.stop.Stop.TheVariants.{Memory};
-ghost use Rattle.clu_cli.specs.Status.{reject_line, stop_line, stop_status};
+ghost use Rattle.clu_cli.specs.Status.{named_line, reject_line, stop_line, stop_status};
 
-use crate::lines::{push_count, push_counts, push_line, push_signed};
+use crate::lines::{push_count, push_line, push_signed};
 use crate::refusal::{Refusal, push_refusal};
 use clu_check::Reject;
-use clu_partition::Vertex;
 use std::alloc::{AllocError, Global};
 
+/// Two vertices by their names.
+#[derive(Debug, Drop)]
+pub struct NamedPair {
+    /// The name of the smaller vertex.
+    pub first: Vec<u8>,
+    /// The name of the other one, which may be the same.
+    pub second: Vec<u8>,
+}
+
 /// Why a run has no report.
-#[derive(Clone, Copy, Debug, PartialEq, Eq)]
+#[derive(Debug, Drop)]
 pub enum Stop {
     /// The certificate file is no text of a certificate.
     BadText {
         /// The first line that can't stand where it stands.
         line: u64,
     },
-    /// The certificate isn't valid.
+    /// The certificate isn't valid, and its blocks break no rule.
     Rejected(Reject),
-    /// The graph file is refused.
+    /// The blocks of the certificate break a rule: the least pair that shows it.
+    Broken(NamedPair),
+    /// The graph file or the rules file is refused.
     Refused(Refusal),
+    /// The rules contradict: the least pair that is forbidden and tied.
+    Contradiction(NamedPair),
     /// The words are of no command.
     Words,
     /// A load met a fault.
@@ -31,7 +43,7 @@ pub enum Stop {
     WriteFault,
     /// Want of memory.
     Memory,
-    /// The graph file is longer than the limit.
+    /// The graph file or the rules file is longer than the limit.
     TooLong,
     /// There is no such file.
     NoFile,
@@ -51,8 +63,9 @@ impl Stop {
         ensures { result ≡ stop_status self.now }
     {
         match self {
-            Stop::BadText { .. } | Stop::Rejected(_) => 3,
+            Stop::BadText { .. } | Stop::Rejected(_) | Stop::Broken(_) => 3,
             Stop::Refused(_) => 4,
+            Stop::Contradiction(_) => 5,
             Stop::Words => 6,
             Stop::ReadFault => 7,
             Stop::WriteFault => 8,
@@ -71,7 +84,9 @@ impl Stop {
         match self {
             Stop::BadText { line } => push_count(&mut out, "clu: certificate line ", *line)?,
             Stop::Rejected(reject) => push_reject(&mut out, *reject)?,
+            Stop::Broken(pair) => push_pair(&mut out, "clu: rejected 3 ", pair)?,
             Stop::Refused(refusal) => push_refusal(&mut out, *refusal)?,
+            Stop::Contradiction(pair) => push_pair(&mut out, "clu: contradiction ", pair)?,
             Stop::Words => push_line(&mut out, "clu: words")?,
             Stop::ReadFault => push_line(&mut out, "clu: read fault")?,
             Stop::WriteFault => push_line(&mut out, "clu: write fault")?,
@@ -90,7 +105,7 @@ fn push_reject(out: &mut Vec<u8>, reject: Reject) -> Result<(), AllocError>
     match reject {
         Reject::Shape => push_line(out, "clu: rejected 1"),
         Reject::Blocks => push_line(out, "clu: rejected 2"),
-        Reject::Rule { u, v } => push_rule(out, u, v),
+        Reject::Rule { .. } => push_line(out, "clu: rejected 3"),
         Reject::Value { found } => push_signed(out, "clu: rejected 4 ", found),
         Reject::Step { item } => push_count(out, "clu: rejected 5 item ", item),
         Reject::Parts { part } => push_count(out, "clu: rejected 6 part ", part),
@@ -101,9 +116,14 @@ fn push_reject(out: &mut Vec<u8>, reject: Reject) -> Result<(), AllocError>
     }
 }
 
-/// The line of the least pair against the rules.
-fn push_rule(out: &mut Vec<u8>, u: Vertex, v: Vertex) -> Result<(), AllocError>
-    ensures { OnOk result (out.new.items ≡ out.old.items ++ reject_line (Reject.Rule u v)) }
+/// A line of words, which have their blank, and the names of two vertices.
+fn push_pair(out: &mut Vec<u8>, words: &str, pair: &NamedPair) -> Result<(), AllocError>
+    ensures { OnOk result (out.new.items ≡ out.old.items ++ named_line words.now pair.now) }
 {
-    push_counts(out, "clu: rejected 3 ", u.0 as u64 + 1, v.0 as u64 + 1)
+    out.extend_from_slice(words.as_bytes())?;
+    out.extend_from_slice(&pair.first)?;
+    out.push(b' ')?;
+    out.extend_from_slice(&pair.second)?;
+    out.push(b'\n')?;
+    Ok(())
 }

@@ -6,13 +6,13 @@ use Rattle.std.proofs.lemmas.List.Elements.{All-nil, All-contains, Contains-appe
 use Rattle.std.specs.List.{enumerate_from}
 use Rattle.clu_text.specs.Lines.{lines_of}
 use Rattle.clu_partition.specs.Closed.{Closed, IsClosed, BindsNothing, IsPermitted, joins}
-use Rattle.clu_partition.specs.Ties.{Tied, same, ObeysPairs, IsStartOf, Contradicts}
+use Rattle.clu_partition.specs.Ties.{Tied, same, ObeysPairs, IsStartOf}
 use Rattle.clu_partition.proofs.ClosedLaws.{open_closed, own_permitted}
 use Rattle.clu_partition.proofs.JoinLaws.{joins_listed}
 use Rattle.clu_partition.proofs.StartLaws.{all_from, tied_labels}
 use Rattle.clu_rules.specs.Lines.{Rule}
 use Rattle.clu_rules.specs.Rules.{Obeys, IsListOf, Requires, Forbids}
-use Rattle.clu_rules.specs.Reading.{IsRulesFault, IsTextOf, AreRules}
+use Rattle.clu_rules.specs.Reading.{IsRulesFault, IsTextOf}
 use Rattle.clu_rules.specs.Closing.{ArePairsOf, IsClosureOf, IsContradiction}
 use Rattle.clu_rules.specs.declared.error.RuleError.{RuleError}
 use Rattle.clu_rules.proofs.Excluded.{read_faultless}
@@ -188,33 +188,6 @@ pub refused_or_text : (named : List ℕ → ℕ → Type 0) (one : (name : List 
     → IsRulesFault named bytes error → IsTextOf named bytes rules → ⊥
 refused_or_text named one bytes error rules f r = read_faultless named one bytes rules error r f
 
--- the pairs of a text are those of its rules
-pairs_of_text : (n : ℕ) (named : List ℕ → ℕ → Type 0) (bytes : List ℕ) (required forbidden : List (ℕ × ℕ)) → (text : AreRules n named bytes required forbidden)
-    → ArePairsOf n text.rules required forbidden
-pairs_of_text n named bytes required forbidden text = record { required_are = text.required_are; forbidden_are = text.forbidden_are }
-
--- the closed rules of a text's pairs are those of its rules
-pub text_closes : (n : ℕ) (named : List ℕ → ℕ → Type 0) (bytes : List ℕ) (required forbidden : List (ℕ × ℕ)) (start : Closed) → AreRules n named bytes required forbidden → IsClosed start
-    → IsStartOf n required forbidden start → (rules : List Rule) × IsTextOf named bytes rules × IsClosureOf n rules start
-text_closes n named bytes required forbidden start text closed made = (
-  text.rules,
-  text.reads,
-  record { required = required; forbidden = forbidden; pairs = pairs_of_text n named bytes required forbidden text; closed = closed; made = made },
-)
-
--- a contradiction of a text's pairs is one of its rules
-pub text_contradicts : (n : ℕ) (named : List ℕ → ℕ → Type 0) (bytes : List ℕ) (required forbidden : List (ℕ × ℕ)) (u v : ℕ) → AreRules n named bytes required forbidden
-    → Contradicts required forbidden u v → (rules : List Rule) × IsTextOf named bytes rules × IsContradiction n rules u v
-text_contradicts n named bytes required forbidden u v text pair = (
-  text.rules,
-  text.reads,
-  record { required = required; forbidden = forbidden; pairs = pairs_of_text n named bytes required forbidden text; pair = pair },
-)
-
--- no bytes are a text of no rules
+-- a text without lines is one of no rules
 pub empty_is_text : (named : List ℕ → ℕ → Type 0) → IsTextOf named [] []
 empty_is_text named = refl
-
--- and of no others
-pub empty_text : (named : List ℕ → ℕ → Type 0) (rules : List Rule) → IsTextOf named [] rules → rules ≡ []
-empty_text named rules r = sym r

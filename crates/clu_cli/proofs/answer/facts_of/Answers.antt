@@ -5,4 +5,4 @@ use Rattle.clu_cli.proofs.answer.facts_of.Goals as goal
 
 pub returns-clause-scale : goal.returns-clause-scale
 returns-clause-scale c =
-    subst (λ (n : ℕ). pos n ≡ scale_of c.args.input.now.instance) (sym c.scale_of.ensures) (scale_posed c.args.input.now.instance c.args.input.now.problem c.requires)
+    subst (λ (n : ℕ). pos n ≡ scale_of c.args.task.now.instance) (sym c.scale_of.ensures) (scale_posed c.args.task.now.instance c.args.task.now.problem c.requires)
