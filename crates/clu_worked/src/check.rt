@@ -2,7 +2,9 @@
 
 ghost use Rattle.std.specs.Prelude.{◌≡◌, length};
 
-use crate::fixtures::{CYCLE as CYCLE_WEIGHTS, TRIANGLES, Weights, changed, editing, weighed};
+use crate::fixtures::{
+    CYCLE as CYCLE_WEIGHTS, FREE, Rules, TRIANGLES, Weights, changed, closed, editing, weighed,
+};
 use clu_cert::{Proof, read_cert};
 use clu_check::{Accepted, Reject, check};
 use clu_objective::{Objective, Problem};
@@ -68,6 +70,39 @@ leaf 1 0
 pair 1 5
 pair 2 3
 pair 2 4
+leaf 1 0
+end
+";
+
+/// The five-cycle by a leaf without rows, which proves 14 where rules leave no more than 4 inside and free.
+const BARE: &str = "clucert 1
+objective agreement
+vertices 5
+value 14
+bound 14
+blocks 1 1 2 2 3
+steps 0
+parts 1
+part 1 2 3 4 5
+items 1
+leaf 1 0
+end
+";
+
+/// The five-cycle by two parts, between which rules have to forbid the edges.
+const TWO_PARTS: &str = "clucert 1
+objective agreement
+vertices 5
+value 14
+bound 16
+blocks 1 1 2 2 3
+steps 0
+parts 2
+part 1 2
+items 1
+leaf 1 0
+part 3 4 5
+items 1
 leaf 1 0
 end
 ";
@@ -400,15 +435,114 @@ const BRIDGE_CASES: [Case; 8] = [
     ),
 ];
 
-const RULE_CASES: [Case; 1] = [(
-    TREE,
-    "end",
-    "end",
-    Err(Reject::Rule {
-        u: Vertex(0),
-        v: Vertex(1),
-    }),
-)];
+const FIRST_FORBIDDEN: Rules = Rules {
+    required: &[],
+    forbidden: &[(0, 1)],
+};
+
+const FIRST_TIED: Rules = Rules {
+    required: &[(0, 1)],
+    forbidden: &[],
+};
+
+const SECOND_TIED: Rules = Rules {
+    required: &[(2, 1)],
+    forbidden: &[],
+};
+
+const TWO_TIED: Rules = Rules {
+    required: &[(0, 1), (2, 3)],
+    forbidden: &[],
+};
+
+/// A chain ties vertices 1 and 5.
+const CHAINED: Rules = Rules {
+    required: &[(4, 1), (0, 1)],
+    forbidden: &[],
+};
+
+const THREE_FORBIDDEN: Rules = Rules {
+    required: &[],
+    forbidden: &[(0, 1), (2, 3), (3, 4)],
+};
+
+/// The edges between vertices 1 and 2 and the others.
+const CUT: Rules = Rules {
+    required: &[],
+    forbidden: &[(1, 2), (0, 4)],
+};
+
+const FIRST_BROKEN: Answer = Err(Reject::Rule {
+    u: Vertex(0),
+    v: Vertex(1),
+});
+
+const SECOND_BROKEN: Answer = Err(Reject::Rule {
+    u: Vertex(1),
+    v: Vertex(2),
+});
+
+const LAST_BROKEN: Answer = Err(Reject::Rule {
+    u: Vertex(0),
+    v: Vertex(4),
+});
+
+const OPTIMAL: Answer = Ok(Accepted {
+    value: 14,
+    bound: 14,
+});
+
+const TWO_ABOVE: Answer = Ok(Accepted {
+    value: 14,
+    bound: 16,
+});
+
+/// The blocks of most of the five-cycle's certificates, and others of value 14 that divide vertices 1 and 2.
+const BLOCKS_OF: &str = "blocks 1 1 2 2 3";
+
+const OTHER_BLOCKS: &str = "blocks 1 2 2 3 1";
+
+// Without rules a leaf without rows proves 20, and an edge leaves each of the two parts. With the first edge tied
+// there are 2 inside and 4 free, with the edge of vertices 3 and 4 as well 4 inside and nothing above 0 free. With
+// one edge forbidden four are free, with three two. The parts of vertices 1 and 2 and of 3, 4 and 5 have three edges.
+const RULED: [(Rules, Case); 17] = [
+    (FREE, (TREE, BLOCKS_OF, OTHER_BLOCKS, OPTIMAL)),
+    (FIRST_FORBIDDEN, (TREE, BLOCKS_OF, OTHER_BLOCKS, ITEM_1)),
+    (FIRST_FORBIDDEN, (TREE, "end", "end", FIRST_BROKEN)),
+    (SECOND_TIED, (TREE, "end", "end", SECOND_BROKEN)),
+    (CHAINED, (TREE, "end", "end", LAST_BROKEN)),
+    (FIRST_TIED, (TREE, "end", "end", ITEM_1)),
+    (FREE, (BARE, "end", "end", Err(Reject::Bound { found: 20 }))),
+    (
+        FIRST_FORBIDDEN,
+        (
+            BARE,
+            BLOCKS_OF,
+            OTHER_BLOCKS,
+            Err(Reject::Bound { found: 18 }),
+        ),
+    ),
+    (
+        FIRST_TIED,
+        (BARE, "end", "end", Err(Reject::Bound { found: 16 })),
+    ),
+    (FIRST_TIED, (BARE, "bound 14", "bound 16", TWO_ABOVE)),
+    (TWO_TIED, (BARE, "end", "end", OPTIMAL)),
+    (THREE_FORBIDDEN, (BARE, BLOCKS_OF, OTHER_BLOCKS, OPTIMAL)),
+    (FREE, (TWO_PARTS, "end", "end", PART_1)),
+    (SECOND_TIED, (TWO_PARTS, BLOCKS_OF, OTHER_BLOCKS, PART_1)),
+    (CUT, (TWO_PARTS, "end", "end", TWO_ABOVE)),
+    (
+        CUT,
+        (
+            TWO_PARTS,
+            "bound 16",
+            "bound 15",
+            Err(Reject::Bound { found: 16 }),
+        ),
+    ),
+    (CUT, (TWO_PARTS, "part 1 2\n", "part 1\n", PART_1)),
+];
 
 /// 1 on each edge of a star of four vertices, -1 on each other pair.
 const STAR_WEIGHTS: Weights = &[
@@ -490,6 +624,19 @@ fn ask_of_cycle(rt: &impl Abort, alloc: Global, cases: &[Case]) -> Result<(), Al
     ask(rt, alloc, &problem, &start, cases)
 }
 
+/// Whether the checker says of a case over the five-cycle under these rules what it should.
+fn is_judged_under(
+    rt: &impl Abort,
+    alloc: Global,
+    start: &Start,
+    case: &Case,
+) -> Result<bool, AllocError> {
+    let pairs = weighed(rt, alloc, 5, CYCLE_WEIGHTS)?;
+    let problem = five_cycle(rt, pairs);
+    assert!(rt; start.n() == problem.pairs.n());
+    is_judged(alloc, &problem, start, case)
+}
+
 /// Asks it over the star.
 fn ask_of_star(rt: &impl Abort, alloc: Global, cases: &[Case]) -> Result<(), AllocError> {
     let pairs = weighed(rt, alloc, 4, STAR_WEIGHTS)?;
@@ -504,17 +651,6 @@ fn ask_of_bridge(rt: &impl Abort, alloc: Global, cases: &[Case]) -> Result<(), A
     let problem = bridge(rt, pairs);
     let start = Start::none(alloc, 6)?;
     ask(rt, alloc, &problem, &start, cases)
-}
-
-/// Asks it over the five-cycle with its first edge forbidden, and answers whether such rules are possible.
-fn ask_under_rules(rt: &impl Abort, alloc: Global, cases: &[Case]) -> Result<bool, AllocError> {
-    let Ok(start) = Start::tied(alloc, 5, &[], &[(Vertex(0), Vertex(1))]) else {
-        return Ok(false);
-    };
-    let pairs = weighed(rt, alloc, 5, CYCLE_WEIGHTS)?;
-    let problem = five_cycle(rt, pairs);
-    ask(rt, alloc, &problem, &start, cases)?;
-    Ok(true)
 }
 
 /// What the checker says of the five-cycle's certificate with a part without vertices in place of its own.
@@ -559,8 +695,16 @@ fn two_triangles_and_a_bridge_are_judged(rt: HostRuntime) -> Result<(), Fail> {
 }
 
 #[test]
-fn a_forbidden_pair_in_a_block_is_named(rt: HostRuntime) -> Result<(), Fail> {
-    assert!(rt; ask_under_rules(&rt, rt.alloc(), &RULE_CASES)?);
+fn the_five_cycle_is_judged_by_rules(rt: HostRuntime) -> Result<(), Fail> {
+    for (rules, case) in &RULED {
+        let start = closed(&rt, rt.alloc(), 5, rules)?;
+        assert!(rt;
+            is_judged_under(&rt, rt.alloc(), &start, case)?,
+            "{} in place of {}",
+            case.2,
+            case.1
+        );
+    }
     Ok(())
 }
 

@@ -16,6 +16,17 @@ const PATH_GAP_REPORT: &str =
 const TRIANGLE_REPORT: &str =
     "objective edits\nvertices 3\nvalue 0\nbound 0\nscale 1\nverdict optimal\nbranchings 2\nblocks 1\nblock 1 2 3\n";
 
+/// The path with its ends tied.
+const ENDS_REPORT: &str =
+    "objective edits\nvertices 3\nvalue 1\nbound 1\nscale 1\nverdict optimal\nbranchings 1\nblocks 1\nblock 1 2 3\n";
+
+const ENDS_GAP_REPORT: &str =
+    "objective edits\nvertices 3\nvalue 3\nbound 1\nscale 1\nverdict gap branchings\nbranchings 0\nblocks 2\nblock 1 3\nblock 2\n";
+
+/// The triangle with one edge forbidden: with the first edge together the other one is cut, and apart the last one is left.
+const SIDES_REPORT: &str =
+    "objective edits\nvertices 3\nvalue 2\nbound 2\nscale 1\nverdict optimal\nbranchings 1\nblocks 2\nblock 1 2\nblock 3\n";
+
 const NONE_REPORT: &str =
     "objective edits\nvertices 0\nvalue 0\nbound 0\nscale 1\nverdict optimal\nbranchings 0\nblocks 0\n";
 
@@ -48,12 +59,16 @@ const STAR_CERT: &str =
 const PATH_CERT: &str =
     "clucert 1\nobjective edits\nvertices 3\nvalue 1\nbound 1\nblocks 1 1 2\nsteps 0\nparts 1\npart 1 2 3\nitems 3\nbranch 1 2\nleaf 1 0\nleaf 1 0\nend\n";
 
+/// The certificate of the path with its ends tied, after the branching that is left.
+const ENDS_CERT: &str =
+    "clucert 1\nobjective edits\nvertices 3\nvalue 1\nbound 1\nblocks 1 1 1\nsteps 0\nparts 1\npart 1 2 3\nitems 3\nbranch 1 2\nleaf 1 0\nleaf 1 0\nend\n";
+
 /// The certificate of a graph without vertices.
 const NONE_CERT: &str =
     "clucert 1\nobjective edits\nvertices 0\nvalue 0\nbound 0\nblocks\nsteps 0\nparts 0\nend\n";
 
-/// The files of each case: graphs, the star's certificate, and altered copies of it.
-const FILES: [(&str, &str); 19] = [
+/// The files of each case: graphs, the star's certificate, altered copies of it, and rules.
+const FILES: [(&str, &str); 29] = [
     ("none", "p cep 0 0\n"),
     ("path", "p cep 3 2\n1 2\n2 3\n"),
     ("triangle", "p cep 3 3\n1 2\n1 3\n2 3\n"),
@@ -90,7 +105,30 @@ const FILES: [(&str, &str); 19] = [
         "open",
         "clucert 1\nobjective edits\nvertices 4\nvalue 3\nbound 1\nblocks 1 2 3 4\nsteps 0\nparts 1\npart 1 2 3 4\nitems 1\nleaf 1 1\nrow 1 1 / 2 3\n",
     ),
+    // it proves the bound where an edge is forbidden
+    (
+        "bare",
+        "clucert 1\nobjective edits\nvertices 4\nvalue 3\nbound 1\nblocks 1 2 3 4\nsteps 0\nparts 1\npart 1 2 3 4\nitems 1\nleaf 1 0\nend\n",
+    ),
     ("old", "what stood there"),
+    ("first", "together 1 2\n"),
+    ("apart", "apart 2 1\n"),
+    ("ends", "together 3 1\n"),
+    (
+        "shared",
+        "share side\r\nattribute 1 side left\r\nattribute 3 side left\r\n",
+    ),
+    (
+        "sides",
+        "# sides\nattribute 1 side left\nattribute 3 side right\nsame side\n",
+    ),
+    ("clash", "together 2 1\napart 3 1\ntogether 3 2\n"),
+    ("letters", "together b a\napart b a\n"),
+    ("fourth", "together 1 2\napart 1 4\n"),
+    (
+        "twice",
+        "attribute 1 side left\nattribute 1 side left\nnear 1 2\n",
+    ),
 ];
 
 /// A run over these files: its words, the numbers of the calls of the folder, of out and of err
@@ -105,7 +143,7 @@ struct Case {
     err: &'static str,
 }
 
-const CASES: [Case; 15] = [
+const CASES: [Case; 26] = [
     Case {
         words: &["solve", "alone"],
         failing: [&[], &[], &[]],
@@ -249,10 +287,105 @@ const CASES: [Case; 15] = [
         out: "",
         err: "",
     },
+    Case {
+        words: &["solve", "path", "--rules", "ends"],
+        failing: [&[], &[], &[]],
+        loads: &["path", "ends"],
+        status: 0,
+        out: ENDS_REPORT,
+        err: "",
+    },
+    Case {
+        words: &["solve", "path", "--branchings", "0", "--rules", "shared"],
+        failing: [&[], &[], &[]],
+        loads: &["path", "shared"],
+        status: 1,
+        out: ENDS_GAP_REPORT,
+        err: "",
+    },
+    Case {
+        words: &["solve", "triangle", "--rules", "sides"],
+        failing: [&[], &[], &[]],
+        loads: &["triangle", "sides"],
+        status: 0,
+        out: SIDES_REPORT,
+        err: "",
+    },
+    Case {
+        words: &["solve", "path", "--rules", "clash"],
+        failing: [&[], &[], &[]],
+        loads: &["path", "clash"],
+        status: 5,
+        out: "",
+        err: "clu: contradiction 1 3\n",
+    },
+    Case {
+        words: &[
+            "solve",
+            "sample",
+            "--rules",
+            "letters",
+            "--objective",
+            "agreement",
+        ],
+        failing: [&[], &[], &[]],
+        loads: &["sample", "letters"],
+        status: 5,
+        out: "",
+        err: "clu: contradiction a b\n",
+    },
+    Case {
+        words: &["solve", "path", "--rules", "fourth"],
+        failing: [&[], &[], &[]],
+        loads: &["path", "fourth"],
+        status: 4,
+        out: "",
+        err: "clu: rules UnknownVertex line 2\n",
+    },
+    Case {
+        words: &["solve", "path", "--rules", "names"],
+        failing: [&[], &[], &[]],
+        loads: &["path", "names"],
+        status: 4,
+        out: "",
+        err: "clu: rules BadRule line 1\n",
+    },
+    Case {
+        words: &["solve", "path", "--rules", "twice"],
+        failing: [&[], &[], &[]],
+        loads: &["path", "twice"],
+        status: 4,
+        out: "",
+        err: "clu: rules AttributeTwice line 2\n",
+    },
+    Case {
+        words: &["solve", "path", "--rules", "missing"],
+        failing: [&[], &[], &[]],
+        loads: &["path", "missing"],
+        status: 11,
+        out: "",
+        err: "clu: no file\n",
+    },
+    Case {
+        words: &["solve", "loop", "--rules", "missing"],
+        failing: [&[], &[], &[]],
+        loads: &["loop"],
+        status: 4,
+        out: "",
+        err: "clu: graph Loop line 2\n",
+    },
+    Case {
+        words: &["solve", "path", "--rules", "ends"],
+        failing: [&[2], &[], &[]],
+        loads: &["path", "ends"],
+        status: 7,
+        out: "",
+        err: "clu: read fault\n",
+    },
 ];
 
 /// Words of no command.
-const WRONG_WORDS: [&[&str]; 24] = [
+const WRONG_WORDS: [&[&str]; 27] = [
     &[],
     &["solve"],
     &["solve", "-path"],
@@ -291,10 +424,15 @@ const WRONG_WORDS: [&[&str]; 24] = [
     &["check", "star", "valid", "--branchings", "1"],
     &["check", "star", "valid", "--certificate", "new"],
     &["check", "star", "valid", "--places", "2"],
+    &["solve", "path", "--rules"],
+    &["solve", "path", "--rules", "-ends"],
+    &[
+        "check", "path", "valid", "--rules", "ends", "--rules", "ends",
+    ],
 ];
 
 /// The star and a certificate that is checked against it.
-const CHECKS: [Case; 11] = [
+const CHECKS: [Case; 16] = [
     Case {
         words: &["check", "star", "valid"],
         failing: [&[], &[], &[]],
@@ -383,16 +521,68 @@ const CHECKS: [Case; 11] = [
         out: "",
         err: "clu: no file\n",
     },
+    Case {
+        words: &["check", "star", "valid", "--rules", "first"],
+        failing: [&[], &[], &[]],
+        loads: &["star", "first", "valid"],
+        status: 3,
+        out: "",
+        err: "clu: rejected 3 1 2\n",
+    },
+    Case {
+        words: &["check", "star", "bare"],
+        failing: [&[], &[], &[]],
+        loads: &["star", "bare"],
+        status: 3,
+        out: "",
+        err: "clu: rejected 9 0\n",
+    },
+    Case {
+        words: &["check", "star", "bare", "--rules", "apart"],
+        failing: [&[], &[], &[]],
+        loads: &["star", "apart", "bare"],
+        status: 0,
+        out: ACCEPTED,
+        err: "",
+    },
+    Case {
+        words: &["check", "path", "valid", "--rules", "clash"],
+        failing: [&[], &[], &[]],
+        loads: &["path", "clash"],
+        status: 5,
+        out: "",
+        err: "clu: contradiction 1 3\n",
+    },
+    Case {
+        words: &["check", "star", "valid", "--rules", "missing"],
+        failing: [&[], &[], &[]],
+        loads: &["star", "missing"],
+        status: 11,
+        out: "",
+        err: "clu: no file\n",
+    },
 ];
 
-/// A run without branchings that stores the star's certificate under a name, and what the name holds then.
+/// A run that stores a certificate under a name, and what the name holds then.
 struct Stored {
     case: Case,
     name: &'static str,
     held: &'static str,
 }
 
-const STORES: [Stored; 7] = [
+const STORES: [Stored; 8] = [
+    Stored {
+        case: Case {
+            words: &["solve", "path", "--rules", "ends", "--certificate", "old"],
+            failing: [&[], &[], &[]],
+            loads: &["path", "ends"],
+            status: 0,
+            out: ENDS_REPORT,
+            err: "",
+        },
+        name: "old",
+        held: ENDS_CERT,
+    },
     Stored {
         case: Case {
             words: &["solve", "path", "--certificate", "old", "--branchings", "1"],
@@ -486,16 +676,111 @@ const STORES: [Stored; 7] = [
     },
 ];
 
-/// Graphs, and how many branchings are allowed, of which each certificate is then checked.
-const ROUNDS: [(&str, &str); 8] = [
-    ("alone", "0"),
-    ("path", "0"),
-    ("path", "1"),
-    ("triangle", "1"),
-    ("triangle", "2"),
-    ("star", "0"),
-    ("star", "1"),
-    ("star", "100000"),
+/// Words that store a certificate as `new`, and words that check it.
+type Round = (&'static [&'static str], &'static [&'static str]);
+
+const ROUNDS: [Round; 12] = [
+    (
+        &[
+            "solve",
+            "alone",
+            "--branchings",
+            "0",
+            "--certificate",
+            "new",
+        ],
+        &["check", "alone", "new"],
+    ),
+    (
+        &["solve", "path", "--branchings", "0", "--certificate", "new"],
+        &["check", "path", "new"],
+    ),
+    (
+        &["solve", "path", "--branchings", "1", "--certificate", "new"],
+        &["check", "path", "new"],
+    ),
+    (
+        &[
+            "solve",
+            "triangle",
+            "--branchings",
+            "1",
+            "--certificate",
+            "new",
+        ],
+        &["check", "triangle", "new"],
+    ),
+    (
+        &[
+            "solve",
+            "triangle",
+            "--branchings",
+            "2",
+            "--certificate",
+            "new",
+        ],
+        &["check", "triangle", "new"],
+    ),
+    (
+        &["solve", "star", "--branchings", "0", "--certificate", "new"],
+        &["check", "star", "new"],
+    ),
+    (
+        &["solve", "star", "--branchings", "1", "--certificate", "new"],
+        &["check", "star", "new"],
+    ),
+    (
+        &[
+            "solve",
+            "star",
+            "--branchings",
+            "100000",
+            "--certificate",
+            "new",
+        ],
+        &["check", "star", "new"],
+    ),
+    (
+        &[
+            "solve",
+            "path",
+            "--rules",
+            "ends",
+            "--certificate",
+            "new",
+            "--branchings",
+            "0",
+        ],
+        &["check", "path", "new", "--rules", "ends"],
+    ),
+    (
+        &[
+            "solve",
+            "triangle",
+            "--rules",
+            "sides",
+            "--certificate",
+            "new",
+        ],
+        &["check", "triangle", "new", "--rules", "sides"],
+    ),
+    (
+        &[
+            "solve",
+            "star",
+            "--rules",
+            "apart",
+            "--certificate",
+            "new",
+            "--branchings",
+            "1",
+        ],
+        &["check", "star", "new", "--rules", "apart"],
+    ),
+    (
+        &["solve", "star", "--rules", "first", "--certificate", "new"],
+        &["check", "star", "new", "--rules", "first"],
+    ),
 ];
 
 fn words_of(alloc: Global, words: &[&str]) -> Result<Vec<String>, Fail> {
@@ -508,8 +793,8 @@ fn words_of(alloc: Global, words: &[&str]) -> Result<Vec<String>, Fail> {
 
 fn folder_of(alloc: Global, failing: &[u64]) -> Result<MemoryFolder, Fail> {
     let mut folder = MemoryFolder::new(alloc, failing.to_vec(alloc)?);
-    for (name, text) in FILES {
-        folder.put(name, text.as_bytes())?;
+    for (name, text) in &FILES {
+        folder.put(*name, text.as_bytes())?;
     }
     Ok(folder)
 }
@@ -563,22 +848,13 @@ fn status_over(alloc: Global, folder: &mut MemoryFolder, words: &[&str]) -> Resu
     Ok(run(alloc, &words, folder, &mut out, &mut err))
 }
 
-fn expect_accepted(rt: &impl Abort, alloc: Global, graph: &str, limit: &str) -> Result<(), Fail> {
+/// Whether what the first words store is accepted by the other ones.
+fn is_accepted(alloc: Global, round: &Round) -> Result<bool, Fail> {
+    let (solve, check) = round;
     let mut folder = folder_of(alloc, &[])?;
-    let solve = [
-        "solve",
-        graph,
-        "--branchings",
-        limit,
-        "--certificate",
-        "new",
-    ];
-    assert!(rt; status_over(alloc, &mut folder, &solve)? <= 1);
-    assert_eq!(rt;
-        status_over(alloc, &mut folder, &["check", graph, "new"])?,
-        0
-    );
-    Ok(())
+    let solved = status_over(alloc, &mut folder, *solve)?;
+    let checked = status_over(alloc, &mut folder, *check)?;
+    Ok(solved <= 1 && checked == 0)
 }
 
 #[test]
@@ -591,9 +867,9 @@ fn each_status_has_its_cause(rt: HostRuntime) -> Result<(), Fail> {
 
 #[test]
 fn other_words_are_refused(rt: HostRuntime) -> Result<(), Fail> {
-    for words in WRONG_WORDS {
+    for words in &WRONG_WORDS {
         let case = Case {
-            words,
+            words: *words,
             failing: [&[1], &[], &[]],
             loads: &[],
             status: 6,
@@ -623,8 +899,8 @@ fn a_certificate_is_stored_before_the_report(rt: HostRuntime) -> Result<(), Fail
 
 #[test]
 fn what_is_stored_is_accepted(rt: HostRuntime) -> Result<(), Fail> {
-    for (graph, limit) in ROUNDS {
-        expect_accepted(&rt, rt.alloc(), graph, limit)?;
+    for round in &ROUNDS {
+        assert!(rt; is_accepted(rt.alloc(), round)?);
     }
     Ok(())
 }

@@ -1,11 +1,12 @@
 //! What the tests of all modules are made of: weights, decisions and states, each built in one
 //! place, since it is the building of states that costs, and not the cases.
 
-ghost use Rattle.std.specs.Prelude.{◌≡◌, OnOk};
+ghost use Rattle.std.specs.Prelude.{◌≡◌, ◌<◌, ◌↔◌, IsTrue, OnOk};
+ghost use Rattle.clu_partition.specs.Ties.{AreBelow};
 ghost use Rattle.clu_state.specs.State.{decided as state_after};
 
 use clu_objective::{Objective, Problem};
-use clu_partition::{PairTable, Start, Vertex, all_vertices};
+use clu_partition::{PairTable, Start, TieError, Vertex, all_vertices};
 use clu_state::{Decision, Rebuilt, Situation};
 use std::alloc::{AllocError, Global};
 use std::process::Abort;
@@ -15,6 +16,18 @@ pub type Weights = &'static [(i8, &'static [(u32, u32)])];
 
 /// Decisions on two vertices, `true` where they are together.
 pub type Decisions = &'static [(u32, u32, bool)];
+
+/// Pairs of vertices that have to share a group, and pairs that must not.
+pub struct Rules {
+    pub required: &'static [(u32, u32)],
+    pub forbidden: &'static [(u32, u32)],
+}
+
+/// Rules that ask for nothing.
+pub const FREE: Rules = Rules {
+    required: &[],
+    forbidden: &[],
+};
 
 /// The path 0-1-2: an edge weighs 1, and the pair of its ends -1.
 pub const PATH: Weights = &[(1, &[(0, 1), (1, 2)]), (-1, &[(0, 2)])];
@@ -80,6 +93,40 @@ pub fn editing(rt: &impl Abort, pairs: PairTable, edges: u8) -> Problem {
     }
 }
 
+fn pairs_of(alloc: Global, numbers: &[(u32, u32)]) -> Result<Vec<(Vertex, Vertex)>, AllocError> {
+    let mut pairs = Vec::new(alloc);
+    for (u, v) in numbers {
+        pairs.push((Vertex(*u), Vertex(*v)))?;
+    }
+    Ok(pairs)
+}
+
+fn is_below(n: u32, pair: (Vertex, Vertex)) -> bool
+    ensures { IsTrue result ↔ ((pair.0 < n) × (pair.1 < n)) }
+{
+    pair.0.0 < n && pair.1.0 < n
+}
+
+/// Whether both vertices of each pair are below n.
+fn are_below(n: u32, pairs: &[(Vertex, Vertex)]) -> bool
+    ensures { IsTrue result ↔ AreBelow n pairs.now }
+{
+    for pair in pairs {
+        if !is_below(n, *pair) {
+            return false;
+        }
+    }
+    true
+}
+
+/// What these rules make of n vertices.
+pub fn closed(rt: &impl Abort, alloc: Global, n: u32, rules: &Rules) -> Result<Start, TieError> {
+    let required = pairs_of(alloc, rules.required)?;
+    let forbidden = pairs_of(alloc, rules.forbidden)?;
+    assert!(rt; n <= 1000 && are_below(n, &required) && are_below(n, &forbidden));
+    Start::tied(alloc, n, &required, &forbidden)
+}
+
 /// The state of all vertices without decisions.
 fn undecided<'p>(
     rt: &impl Abort,
@@ -136,7 +183,7 @@ fn decided<'p>(
     Ok(state)
 }
 
-/// A case over a state of all vertices without rules.
+/// A case over a state of all vertices.
 pub trait Case {
     /// The number of vertices.
     fn n(&self) -> u32;
@@ -151,11 +198,23 @@ pub trait Case {
     fn holds(&self, alloc: Global, state: &mut Rebuilt) -> Result<bool, AllocError>;
 }
 
-/// Whether a case holds in its state.
+/// Whether a case holds in its state without rules.
 pub fn is_met<C: Case>(rt: &impl Abort, alloc: Global, case: &C) -> Result<bool, AllocError> {
-    let pairs = weighed(rt, alloc, case.n(), case.weights())?;
-    let start = Start::none(alloc, pairs.n())?;
-    let mut state = decided(rt, alloc, &pairs, &start, case.decisions())?;
+    let n = case.n();
+    assert!(rt; n <= 1000);
+    let start = Start::none(alloc, n)?;
+    is_met_under(rt, alloc, &start, case)
+}
+
+/// Whether a case holds in its state under these rules.
+pub fn is_met_under<C: Case>(
+    rt: &impl Abort,
+    alloc: Global,
+    start: &Start,
+    case: &C,
+) -> Result<bool, AllocError> {
+    let pairs = weighed(rt, alloc, start.n(), case.weights())?;
+    let mut state = decided(rt, alloc, &pairs, start, case.decisions())?;
     case.holds(alloc, &mut state)
 }
 

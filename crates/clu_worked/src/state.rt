@@ -1,14 +1,16 @@
-//! Weights between groups of a five-cycle, and which of them are apart, worked by hand.
+//! Weights between groups of a five-cycle, and which of them are apart, worked by hand, with rules and
+//! without.
 
-use crate::fixtures::{CYCLE, Case, Decisions, Weights, is_met};
+use crate::fixtures::{CYCLE, Case, Decisions, FREE, Rules, Weights, closed, is_met, is_met_under};
 use clu_partition::Vertex;
 use clu_state::{Decision, Rebuilt, Situation};
 use std::alloc::{AllocError, Global};
 use std::test::Fail;
 
-/// Decisions on the five-cycle, and what comes of them.
+/// Rules and decisions on the five-cycle, and what comes of them.
 struct Decided {
     name: &'static str,
+    rules: Rules,
     decisions: Decisions,
     /// The weight between two groups.
     weights: &'static [(u32, u32, i128)],
@@ -18,9 +20,12 @@ struct Decided {
     fixed: i128,
 }
 
-const CASES: [Decided; 4] = [
+// An edge weighs 2 and another pair -2. So the group of 0 and 1 has 2 - 2 to 2 and to 4 and -2 - 2 to 3,
+// that of 0, 1 and 2 has 2 + 2 - 2 inside, 2 - 2 - 2 to 3 and to 4, and that of 3 and 4 has 2 - 2 to 2.
+const CASES: [Decided; 11] = [
     Decided {
         name: "no decision",
+        rules: FREE,
         decisions: &[],
         weights: &[(0, 1, 2)],
         apart: &[],
@@ -28,6 +33,7 @@ const CASES: [Decided; 4] = [
     },
     Decided {
         name: "a decision merges the weights of two groups",
+        rules: FREE,
         decisions: &[(0, 1, true)],
         weights: &[(0, 3, -4), (1, 3, -4), (0, 2, 0)],
         apart: &[],
@@ -35,6 +41,7 @@ const CASES: [Decided; 4] = [
     },
     Decided {
         name: "two that are apart",
+        rules: FREE,
         decisions: &[(0, 3, false)],
         weights: &[],
         apart: &[(1, 3, false)],
@@ -42,9 +49,87 @@ const CASES: [Decided; 4] = [
     },
     Decided {
         name: "a group is apart from what a part of it was",
+        rules: FREE,
         decisions: &[(0, 3, false), (0, 1, true)],
         weights: &[],
         apart: &[(1, 3, true), (1, 2, false)],
+        fixed: 2,
+    },
+    Decided {
+        name: "a group that a rule ties",
+        rules: Rules {
+            required: &[(1, 0)],
+            forbidden: &[],
+        },
+        decisions: &[],
+        weights: &[(0, 2, 0), (1, 2, 0), (3, 0, -4), (1, 4, 0), (2, 3, 2)],
+        apart: &[(0, 2, false), (1, 3, false)],
+        fixed: 2,
+    },
+    Decided {
+        name: "a pair that a rule forbids",
+        rules: Rules {
+            required: &[],
+            forbidden: &[(3, 0)],
+        },
+        decisions: &[],
+        weights: &[(0, 3, -2), (0, 1, 2)],
+        apart: &[(0, 3, true), (3, 0, true), (1, 3, false), (0, 4, false)],
+        fixed: 0,
+    },
+    Decided {
+        name: "a group is apart from what a rule keeps from a part of it",
+        rules: Rules {
+            required: &[(0, 1)],
+            forbidden: &[(0, 3)],
+        },
+        decisions: &[],
+        weights: &[(1, 3, -4)],
+        apart: &[(0, 3, true), (1, 3, true), (1, 2, false), (3, 4, false)],
+        fixed: 2,
+    },
+    Decided {
+        name: "a group that a chain ties, and one that is kept from its last vertex",
+        rules: Rules {
+            required: &[(1, 2), (0, 1)],
+            forbidden: &[(4, 2)],
+        },
+        decisions: &[],
+        weights: &[(2, 3, -2), (0, 4, -2), (3, 4, 2)],
+        apart: &[(0, 4, true), (1, 4, true), (0, 3, false), (3, 4, false)],
+        fixed: 2,
+    },
+    Decided {
+        name: "what joins a tied group is kept from what that is kept from",
+        rules: Rules {
+            required: &[(0, 1)],
+            forbidden: &[(0, 3)],
+        },
+        decisions: &[(1, 2, true)],
+        weights: &[(2, 3, -2), (2, 4, -2)],
+        apart: &[(2, 3, true), (1, 3, true), (2, 4, false)],
+        fixed: 2,
+    },
+    Decided {
+        name: "what joins a vertex that is kept from a group is kept from it",
+        rules: Rules {
+            required: &[(0, 1)],
+            forbidden: &[(1, 3)],
+        },
+        decisions: &[(3, 4, true)],
+        weights: &[(1, 4, -4), (0, 2, 0), (2, 4, 0)],
+        apart: &[(0, 4, true), (1, 4, true), (0, 2, false), (2, 3, false)],
+        fixed: 4,
+    },
+    Decided {
+        name: "a decision on a vertex of a tied group is one on all of it",
+        rules: Rules {
+            required: &[(0, 1)],
+            forbidden: &[],
+        },
+        decisions: &[(1, 4, false)],
+        weights: &[(0, 4, 0)],
+        apart: &[(0, 4, true), (0, 2, false)],
         fixed: 2,
     },
 ];
@@ -86,15 +171,21 @@ impl Case for Decided {
         self.decisions
     }
 
-    fn holds(&self, _: Global, state: &mut Rebuilt) -> Result<bool, AllocError> {
-        Ok(is_as_wanted(state, self))
+    fn holds(&self, alloc: Global, state: &mut Rebuilt) -> Result<bool, AllocError> {
+        let copy = state.duplicate(alloc)?;
+        Ok(is_as_wanted(state, self) && is_as_wanted(&copy, self))
     }
 }
 
 #[test]
-fn each_state_has_its_weights(rt: HostRuntime) -> Result<(), Fail> {
+fn each_state_and_its_copy_have_their_weights(rt: HostRuntime) -> Result<(), Fail> {
     for case in &CASES {
-        assert!(rt; is_met(&rt, rt.alloc(), case)?, "{}", case.name);
+        let start = closed(&rt, rt.alloc(), 5, &case.rules)?;
+        assert!(rt;
+            is_met_under(&rt, rt.alloc(), &start, case)?,
+            "{}",
+            case.name
+        );
     }
     Ok(())
 }
