@@ -303,5 +303,5 @@ WORDS = [
         "check --objective agreement e d", "check e --objective agreement d", "check e --objective agreement", "check e d d --objective agreement",
         "solve e d --objective agreement", "check g c --certificate d", "check g c --branchings 1", "solve e --objectiv agreement",
         "solve e -objective agreement", "solve e --Objective agreement", "solve e objective agreement", "solve e --objective agreement agreement",
-        "solve g --rules d", "solve g --bits 8", "solve g --json", "edits g", "demo 3 1", "Solve e --format edges")),
+        "solve g --rules", "solve g --bits 8", "solve g --json", "edits g", "demo 3 1", "Solve e --format edges")),
 ]
