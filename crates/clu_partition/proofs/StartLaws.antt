@@ -42,10 +42,11 @@ both_true true b e = (refl, e)
 both_true false b e = absurd (true≢false (sym e))
 
 -- the groups of p are those of u and v, in either order
-abbrev Meets : (ℕ → ℕ) → ℕ × ℕ → ℕ → ℕ → Type 0
+abbrev pub Meets : (ℕ → ℕ) → ℕ × ℕ → ℕ → ℕ → Type 0
 Meets group p u v = ((group p.0 ≡ group u) × (group p.1 ≡ group v)) ⊎ ((group p.0 ≡ group v) × (group p.1 ≡ group u))
 
-joins_from : (group : ℕ → ℕ) (ps : List (ℕ × ℕ)) (u v : ℕ) → joins group ps u v ≡ true → (p : ℕ × ℕ) × Contains ps p × Meets group p u v
+-- a pair that joins the groups of u and v is one of the list
+pub joins_from : (group : ℕ → ℕ) (ps : List (ℕ × ℕ)) (u v : ℕ) → joins group ps u v ≡ true → (p : ℕ × ℕ) × Contains ps p × Meets group p u v
 joins_from group [] u v e = absurd (true≢false (sym e))
 joins_from group (p ∷ ps) u v e = ⊎_elim
     (λ h. (

@@ -1,15 +1,15 @@
 -- Closed rules are those of the rules that they were made of, and no others.
-use Rattle.std.proofs.Common.{◌≡◌, ◌≢◌, ◌⊎◌, inl, inr, ⊎_elim, ◌↔◌, ℕ, ◌<◌, ◌≤◌, List, [], ◌∷◌, length, slice_index, get_or, Contains, All, true, ◌==◌, ◌&&◌, ◌||◌, refl, sym, ap, ◌∙◌, subst, arith}
-use Rattle.std.proofs.lemmas.Bool.{true≢false, eqb-true, and_parts, or_cases, cases_lt}
+use Rattle.std.proofs.Common.{◌≡◌, ◌≢◌, ◌⊎◌, inl, inr, ⊎_elim, ◌↔◌, ℕ, ◌<◌, ◌≤◌, List, [], length, slice_index, get_or, Contains, All, true, refl, sym, ap, ◌∙◌, subst, arith}
+use Rattle.std.proofs.lemmas.Bool.{cases_lt}
 use Rattle.std.proofs.lemmas.List.{same_lists, get_or_default}
-use Rattle.std.proofs.lemmas.List.Elements.{All-nil, All-contains, Contains-append_right}
+use Rattle.std.proofs.lemmas.List.Elements.{All-nil, All-contains}
 use Rattle.std.specs.List.{enumerate_from}
 use Rattle.clu_text.specs.Lines.{lines_of}
 use Rattle.clu_partition.specs.Closed.{Closed, IsClosed, BindsNothing, IsPermitted, joins}
 use Rattle.clu_partition.specs.Ties.{Tied, same, ObeysPairs, IsStartOf}
 use Rattle.clu_partition.proofs.ClosedLaws.{open_closed, own_permitted}
 use Rattle.clu_partition.proofs.JoinLaws.{joins_listed}
-use Rattle.clu_partition.proofs.StartLaws.{all_from, tied_labels}
+use Rattle.clu_partition.proofs.StartLaws.{joins_from, all_from, tied_labels}
 use Rattle.clu_rules.specs.Lines.{Rule}
 use Rattle.clu_rules.specs.Rules.{Obeys, IsListOf, Requires, Forbids}
 use Rattle.clu_rules.specs.Reading.{IsRulesFault, IsTextOf}
@@ -60,22 +60,6 @@ pub none_obeys : (n : ℕ) (rules : List Rule) (u v : ℕ) → IsContradiction n
 none_obeys n rules u v found label o = found.pair.none label ((pairs_obey n rules found.required found.forbidden found.pairs label).1 o)
 
 -- ---- rules close in one way
--- a pair that joins the groups of u and v is one of the list
-joined_by : (group : ℕ → ℕ) (ps : List (ℕ × ℕ)) (u v : ℕ) → joins group ps u v ≡ true
-    → (p : ℕ × ℕ) × Contains ps p × (((group p.0 ≡ group u) × (group p.1 ≡ group v)) ⊎ ((group p.0 ≡ group v) × (group p.1 ≡ group u)))
-joined_by group [] u v e = absurd (true≢false (sym e))
-joined_by group (p ∷ ps) u v e = ⊎_elim
-    (λ h. (
-      p,
-      (0, omega arith, refl),
-      ⊎_elim
-          (λ i. let b = and_parts _ _ i in inl (eqb-true _ _ b.0, eqb-true _ _ b.1))
-          (λ i. let b = and_parts _ _ i in inr (eqb-true _ _ b.0, eqb-true _ _ b.1))
-          (or_cases (group p.0 == group u && group p.1 == group v) (group p.0 == group v && group p.1 == group u) h),
-    ))
-    (λ r. let w = joined_by group ps u v r in (w.0, Contains-append_right (p ∷ []) ps w.0 w.1, w.2))
-    (or_cases (group p.0 == group u && group p.1 == group v || group p.0 == group v && group p.1 == group u) (joins group ps u v) e)
-
 -- the least vertex of a group is at most that of the same pairs' other closed rules
 least_at_most : (n : ℕ) (required forbidden : List (ℕ × ℕ)) (c d : Closed) → IsClosed d → IsStartOf n required forbidden c → IsStartOf n required forbidden d
     → (v : ℕ) → v < n → slice_index c.group v ≤ slice_index d.group v
@@ -110,7 +94,7 @@ module _ (n : ℕ) (required forbidden : List (ℕ × ℕ)) (c d : Closed) (firs
       let less = All-contains (λ p. p.0 < p.1) c.forbidden p first.ordered listed in
       let asked : joins (slice_index c.group) forbidden p.0 p.1 ≡ true = sym (made.apart p.0 p.1 within.0 within.1) ∙ joins_listed (slice_index c.group) c.forbidden p listed in
       let joined = remade.apart p.0 p.1 within.0 within.1 ∙ subst (λ (g : List ℕ). joins (slice_index g) forbidden p.0 p.1 ≡ true) same_groups asked in
-      let q = joined_by (slice_index d.group) d.forbidden p.0 p.1 joined in
+      let q = joins_from (slice_index d.group) d.forbidden p.0 p.1 joined in
       let own = All-contains (λ p. (slice_index d.group p.0 ≡ p.0) × (slice_index d.group p.1 ≡ p.1)) d.forbidden q.0 second.least_pairs q.1 in
       let order = All-contains (λ p. p.0 < p.1) d.forbidden q.0 second.ordered q.1 in
       let left : slice_index d.group p.0 ≡ p.0 = subst (λ (g : List ℕ). slice_index g p.0 ≡ p.0) same_groups least.0 in
