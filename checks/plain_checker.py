@@ -1,11 +1,12 @@
 #!/usr/bin/env python3
 """A checker of certificates for cluster editing, agreement and modularity, in plain Python by `docs/FORMATS.md` alone.
 
-usage: checks/plain_checker.py GRAPH CERTIFICATE [--format pace|edges] [--objective edits|agreement|modularity] [--places K]
+usage: checks/plain_checker.py GRAPH CERTIFICATE [--format pace|edges] [--objective edits|agreement|modularity] [--places K] [--rules FILE]
 
 It sums over sets of vertices by the conditions themselves and shares nothing with the program, so it is slow, and
-`checks/certificates` and `checks/networks` compare the program's answers with its own. Called by itself it prints what
-`clu check` is to print for these files and good words, and ends with its status. `plain_graphs.py` beside it reads the graph.
+`checks/certificates`, `checks/networks` and `checks/rules` compare the program's answers with its own. Called by itself it
+prints what `clu check` is to print for these files and good words, and ends with its status. `plain_graphs.py` beside it reads
+the graph, and `plain_rules.py` the rules.
 """
 
 import re
@@ -14,6 +15,7 @@ from itertools import combinations
 
 sys.dont_write_bytecode = True
 from plain_graphs import Refused, problem_of
+from plain_rules import BadRules, Rules, read_rules
 
 CAPPED = 2**88
 WHOLE = re.compile(rb"0|-?[1-9][0-9]*")
@@ -27,6 +29,7 @@ CAUSES = {
     "certificate": ("a bad line", "a missing line", "a line behind the end"),
     "rejected 1": ("the objective", "the number of labels"),
     "rejected 2": ("the labels' order",),
+    "rejected 3": ("a tied pair in two blocks", "a pair in one block that is apart"),
     "rejected 4": ("the value",),
     "rejected 5": ("a step", "a branch", "a reduction in a part"),
     "rejected 6": ("a part that doesn't rise", "a vertex past the last", "a vertex of an earlier part", "a divided group",
@@ -189,12 +192,12 @@ def read_text(text):
 
 # ---- the check
 class State:
-    """Groups of some vertices, as a list of sets, and which of them are apart."""
+    """Groups of some vertices, as a list of sets, and pairs whose groups are apart: those of the rules, before any decision."""
 
-    def __init__(self, weight, members, groups=None, apart=()):
-        self.weight, self.members = weight, members
-        self.groups = groups if groups is not None else [frozenset([v]) for v in members]
-        self.apart = set(apart)
+    def __init__(self, weight, rules, members, groups=None, apart=None):
+        self.weight, self.rules, self.members = weight, rules, members
+        self.groups = rules.sets(members) if groups is None else groups
+        self.apart = rules.forbidden if apart is None else apart
 
     def group(self, v):
         return next(group for group in self.groups if v in group)
@@ -214,10 +217,10 @@ class State:
     def together(self, u, v):
         one, two = self.group(u), self.group(v)
         groups = [group for group in self.groups if group not in (one, two)] + [one | two]
-        return State(self.weight, self.members, groups, self.apart)
+        return State(self.weight, self.rules, self.members, groups, self.apart)
 
     def kept_apart(self, u, v):
-        return State(self.weight, self.members, self.groups, self.apart | {(u, v)})
+        return State(self.weight, self.rules, self.members, self.groups, self.apart | {(u, v)})
 
     def gain(self, one, other):
         """What a group could gain by sharing a block with another: nothing where they are apart."""
@@ -254,7 +257,7 @@ class State:
 
     def within(self, part, steps):
         """The state of a part, with the steps on two of its vertices."""
-        state = State(self.weight, part)
+        state = State(self.weight, self.rules, part)
         for kind, u, v in steps:
             if u in part and v in part:
                 state = state.reduced(kind, u, v)
@@ -328,9 +331,14 @@ def upper_of(state, items, earlier, part):
     return max(bounds)
 
 
-def check_steps(cert, problem):
+def whole_state(problem, rules):
+    """The state of all vertices before any decision."""
+    return State(problem.weight, rules, list(range(problem.n)))
+
+
+def check_steps(cert, problem, rules):
     """The state after the root steps."""
-    state = State(problem.weight, list(range(problem.n)))
+    state = whole_state(problem, rules)
     for number, step in enumerate(cert["steps"], 1):
         if not state.holds(*step):
             raise Rejected(f"5 item {number}", "a step")
@@ -372,8 +380,8 @@ def proved_bound(cert, problem, state):
     return problem.printed(min(proved_upper(cert, state), CAPPED))
 
 
-def check_cert(problem, cert):
-    """What is wrong first with a certificate for a problem without rules, as `Rejected`."""
+def check_labels(problem, cert, rules):
+    """The conditions on the partition and its value."""
     labels = cert["labels"]
     if cert["objective"] != problem.objective:
         raise Rejected("1", "the objective")
@@ -384,10 +392,19 @@ def check_cert(problem, cert):
         if label > new:
             raise Rejected("2", "the labels' order")
         new = max(new, label + 1)
+    pair = rules.broken(labels)
+    if pair is not None:
+        is_joined = labels[pair[0]] == labels[pair[1]]
+        raise Rejected(f"3 {problem.named(pair)}", CAUSES["rejected 3"][is_joined])
     found = problem.value_of(labels)
     if found != cert["value"]:
         raise Rejected(f"4 {found}", "the value")
-    state = check_steps(cert, problem)
+
+
+def check_cert(problem, cert, rules):
+    """What is wrong first with a certificate for a problem with rules that don't contradict, as `Rejected`."""
+    check_labels(problem, cert, rules)
+    state = check_steps(cert, problem, rules)
     check_parts(cert, problem.n, state)
     upper = proved_upper(cert, state)
     best, is_capped = problem.printed(min(upper, CAPPED)), upper >= CAPPED
@@ -396,11 +413,11 @@ def check_cert(problem, cert):
     return "a capped bound" if is_capped else "optimal" if cert["value"] == cert["bound"] else "gap"
 
 
-def expected(problem, text):
-    """What `check` is to answer: the status, out and err; and the answer's name with its cause."""
+def expected(problem, text, rules=None):
+    """What `check` is to answer: the status, out and err; and the answer's name with its cause. The rules don't contradict."""
     try:
         cert = read_text(text)
-        cause = check_cert(problem, cert)
+        cause = check_cert(problem, cert, Rules(problem.n) if rules is None else rules)
     except BadText as error:
         return (3, b"", b"clu: certificate line %d\n" % error.line), ("certificate", error.cause)
     except Rejected as error:
@@ -412,22 +429,33 @@ def expected(problem, text):
     return (0, "".join(line + "\n" for line in lines).encode(), b""), ("accepted", cause)
 
 
-def answer(graph, certificate, words):
-    """The status, out and err for the bytes of these files and good options."""
+def answer(graph, certificate, words, rules=b""):
+    """The status, out and err for the bytes of these files and good options. No rules are an empty file of them."""
     try:
-        return expected(problem_of(graph, *words), certificate)[0]
-    except Refused as error:
+        problem = problem_of(graph, *words)
+        read = read_rules(rules, problem)
+    except (Refused, BadRules) as error:
         return 4, b"", error.err
+    pair = read.contradiction()
+    if pair is not None:
+        return 5, b"", f"clu: contradiction {problem.named(pair)}\n".encode()
+    return expected(problem, certificate, read)[0]
+
+
+def load(name):
+    with open(name, "rb") as file:
+        return file.read()
 
 
 def main():
     if len(sys.argv) < 3 or len(sys.argv) % 2 == 0:
         print(__doc__, file=sys.stderr)
         return 6
-    with open(sys.argv[1], "rb") as graph, open(sys.argv[2], "rb") as certificate:
-        status, out, err = answer(graph.read(), certificate.read(), sys.argv[3:])
-    sys.stdout.write(out.decode())
-    sys.stderr.write(err.decode())
+    options = sys.argv[3:]
+    rules = load(options[options.index("--rules") + 1]) if "--rules" in options else b""
+    status, out, err = answer(load(sys.argv[1]), load(sys.argv[2]), options, rules)
+    sys.stdout.buffer.write(out)
+    sys.stderr.buffer.write(err)
     return status
 
 

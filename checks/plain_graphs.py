@@ -176,6 +176,9 @@ class Problem:
     def weight(self, u, v):
         return self.weights.get((min(u, v), max(u, v)), 0)
 
+    def named(self, vertices):
+        return " ".join(self.names[v].decode() for v in vertices)
+
     def printed(self, inside):
         return self.base + self.factor * inside
 

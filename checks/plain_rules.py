@@ -28,6 +28,7 @@ class Rules:
     def __init__(self, n, required=(), forbidden=()):
         self.n, self.required, self.forbidden = n, set(required), set(forbidden)
         self.groups = self.chained()
+        self.parted = {frozenset((self.groups[u], self.groups[v])) for u, v in self.forbidden}
 
     def chained(self):
         """The least vertex that each vertex is tied to."""
@@ -41,10 +42,13 @@ class Rules:
     def is_tied(self, u, v):
         return self.groups[u] == self.groups[v]
 
+    def sets(self, members):
+        """These vertices in the sets that chains tie, none of which they divide."""
+        return [frozenset(v for v in members if self.groups[v] == least) for least in members if self.groups[least] == least]
+
     def is_apart(self, u, v):
         """Whether the sets that two vertices are tied to are forbidden to share a block."""
-        ends = {self.groups[u], self.groups[v]}
-        return any({self.groups[a], self.groups[b]} == ends for a, b in self.forbidden)
+        return frozenset((self.groups[u], self.groups[v])) in self.parted
 
     def contradiction(self):
         """The least pair that is forbidden and tied, or None."""
