@@ -93,6 +93,13 @@ JUDGED = [
      text("1 2 1 3", 4, 0, items("branch 2 3", "leaf 1 0", "leaf 1 0", count=3)), b"rejected 5 item 1", None),
     # 3 weighs 1 - 1 with 1 and 2
     ("a heavy pair by a tie", PATH, [], b"together 1 2\n", text("1 1 2 2", 1, 1, step("heavy 3 4")), None, b"rejected 5 item 1"),
+    # nothing counts of 3, and 2 weighs 1 with 1 and -1 with 4
+    ("a heavy pair by pairs that are apart", PATH, [], b"apart 1 3\napart 3 2\n", text("1 1 2 2", 1, 1, step("heavy 2 1")), None,
+     b"rejected 5 item 1"),
+    # the partner 3 of 1 is none of 2
+    ("no heavy pair by a pair that is apart", TRIANGLE, [], b"apart 1 3\n", text("1 1 2", 2, 0, step("heavy 1 2", "1 2 3")),
+     b"rejected 5 item 1", None),
+    ("a heavy pair in the other order", TRIANGLE, [], b"apart 1 3\n", text("1 1 2", 2, 2, step("heavy 2 1", "1 2 3")), None, b"rejected 9 0"),
     # 1 and 2 have the partner 3, and both weigh -1 with 4
     ("twins by pairs that are apart", PATH, [], b"apart 1 3\napart 3 2\n", text("1 1 2 2", 1, 1, step("twin 1 2")), None, b"rejected 5 item 1"),
     ("no twins by a pair that is apart", TRIANGLE, [], b"apart 1 3\n", text("1 1 2", 2, 0, step("twin 1 2", "1 2 3")), b"rejected 5 item 1", None),
@@ -102,5 +109,8 @@ JUDGED = [
     ("no pair by a tie", PATH, [], b"together 2 4\n", text("1 2 3 2", 4, 0, step("pair 1 2")), b"rejected 5 item 1", None),
     # 1 and 2 weigh -2 with 4, and 0 with 3
     ("a light pair by a tie", PATH, [], b"together 1 2\n", text("1 1 2 2", 1, 1, items("light 2 4", "leaf 1 0", count=2)), None, b"rejected 5 item 1"),
+    # nothing is to be had of 1, and 1 of 3
+    ("a light pair by another that is apart", PATH, [], b"apart 2 1\n", text("1 2 2 3", 2, 1, items("light 2 4", "leaf 1 0", count=2)), None,
+     b"rejected 5 item 1"),
     ("a row of one group", PATH, [], b"together 2 3\n", text("1 2 2 3", 2, 0, items("leaf 1 1", "row 1 2 / 3", count=1)), b"rejected 7 item 1", None),
 ]
