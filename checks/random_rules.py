@@ -37,9 +37,14 @@ def random_lines(draw, problem):
 
 
 def few_lines(draw, problem):
-    """The lines of rules that leave more to decide, mostly a few pairs. There is at least one."""
-    if draw.random() < 0.2:
+    """The lines of rules that leave more to decide, mostly a few pairs, for three vertices or more. There is at least one line."""
+    kind = draw.random()
+    if kind < 0.2:
         return random_lines(draw, problem) or few_lines(draw, problem)
+    if kind < 0.4:
+        # two vertices have a partner in common
+        w, *others = (named(draw, problem, v) for v in draw.sample(range(problem.n), 3))
+        return [[b"apart", w, other] for other in others]
     return [random_pair(draw, problem) for _ in range(draw.choice([1, 2, 2, 3]))]
 
 
